@@ -1,0 +1,19 @@
+use std::alloc::{AllocError, AllocFailed};
+use thiserror::Error;
+
+/// Memory ran out. A value that the call was changing is only good for dropping, unless the call says otherwise.
+#[derive(Clone, Copy, Debug, PartialEq, Eq, Error)]
+#[error("out of memory")]
+pub struct NoMemory;
+
+impl From<AllocError> for NoMemory {
+    fn from(_error: AllocError) -> NoMemory {
+        NoMemory
+    }
+}
+
+impl<T: Drop> From<AllocFailed<T>> for NoMemory {
+    fn from(_error: AllocFailed<T>) -> NoMemory {
+        NoMemory
+    }
+}
