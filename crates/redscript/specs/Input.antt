@@ -1,0 +1,31 @@
+-- Reading a source to its end, or past the limit.
+use Rattle.std.specs.Prelude.{◌≡◌, ℕ, ◌<◌, ◌≤◌, List, length, Option}
+use Rattle.rs_outside.specs.Known.{prepended, NoneLeft}
+use Rattle.rs_outside.specs.declared.status.Status.{Status}
+use Rattle.rs_outside.specs.declared.status.Status.TheVariants.{SourceFault, InputTooLong, NoMemory}
+use Rattle.redscript.specs.declared.reading.TheConstants.{MAX_INPUT_BYTES}
+
+-- this text was read, and nothing is left; it is within the limit
+pub record HasReadAll (input input' : Option (List ℕ)) (text : List ℕ) : Type 0 where
+  pub read : input ≡ prepended text input'
+  pub ended : NoneLeft input'
+  pub within : length text ≤ MAX_INPUT_BYTES
+
+-- a text longer than the limit was read
+pub record PassesLimit (input input' : Option (List ℕ)) : Type 0 where
+  pub text : List ℕ
+  pub read : input ≡ prepended text input'
+  pub long : MAX_INPUT_BYTES < length text
+
+-- why reading stopped
+abbrev pub StopsReading : Option (List ℕ) → Option (List ℕ) → Type 0 → Status → Type 0
+StopsReading input input' rose SourceFault = rose
+StopsReading input input' rose (InputTooLong bytes) = (bytes ≡ MAX_INPUT_BYTES) × PassesLimit input input'
+StopsReading input input' rose NoMemory = Unit {0}
+StopsReading input input' rose _ = ⊥
+
+-- why reading a piece stopped
+abbrev pub StopsPiece : Type 0 → Status → Type 0
+StopsPiece rose SourceFault = rose
+StopsPiece rose NoMemory = Unit {0}
+StopsPiece rose _ = ⊥

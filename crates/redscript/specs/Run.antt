@@ -1,0 +1,44 @@
+-- What a run of the program does.
+use Rattle.std.specs.Prelude.{◌≡◌, ◌⊎◌, ℕ, ◌<◌, List, [], ◌∷◌, length, Option, codes}
+use Rattle.rs_outside.specs.declared.status.Status.{Status}
+use Rattle.rs_outside.specs.declared.status.Status.TheVariants.{Usage, BadInput, SourceFault, InputTooLong}
+use Rattle.srv_loop.specs.declared.arrival.Arrival.{Arrival}
+use Rattle.srv_loop.specs.Session.{IsSession, IsBadLine}
+use Rattle.srv_loop.specs.Play.{Plays, StopsAnywhere}
+use Rattle.redscript.specs.Input.{HasReadAll}
+pub use Rattle.redscript.specs.Input.{PassesLimit}
+
+-- the words `play LOG`
+pub record IsPlay (words : List (List ℕ)) (name : List ℕ) : Type 0 where
+  pub words_are : words ≡ codes "play" ∷ name ∷ []
+  pub some : 0 < length name
+
+-- the input was read to its end and is a session, and that was played
+pub record PlaysToEnd (words : List (List ℕ)) (input input' : Option (List ℕ)) (names names' : Option (List (List ℕ))) (log log' out out' : Option (List ℕ)) : Type 0 where
+  pub name : List ℕ
+  pub form : IsPlay words name
+  pub text : List ℕ
+  pub read : HasReadAll input input' text
+  pub arrivals : List Arrival
+  pub session : IsSession text arrivals
+  pub plays : Plays name arrivals names names' log log' out out'
+
+-- the input was read to its end, and this is its first bad line
+pub record FindsBad (input input' : Option (List ℕ)) (line : ℕ) : Type 0 where
+  pub text : List ℕ
+  pub read : HasReadAll input input' text
+  pub bad : IsBadLine text line
+
+-- the statuses with which nothing was begun or written
+abbrev pub IsRefusal : Status → Type 0
+IsRefusal Usage = Unit {0}
+IsRefusal (BadInput line) = Unit {0}
+IsRefusal SourceFault = Unit {0}
+IsRefusal (InputTooLong bytes) = Unit {0}
+IsRefusal _ = ⊥
+
+-- wherever a run ended: nothing was begun or taken, or the input was read to its end and its play stopped somewhere
+abbrev pub StopsRun : List (List ℕ) → Option (List ℕ) → Option (List ℕ) → Option (List (List ℕ)) → Option (List (List ℕ)) → Option (List ℕ) → Option (List ℕ) → Option (List ℕ) → Option (List ℕ) → Type 0
+StopsRun words input input' names names' log log' out out' =
+    ((names' ≡ names) × (log' ≡ log) × (out' ≡ out))
+    ⊎ ((name : List ℕ) × IsPlay words name × (text : List ℕ) × HasReadAll input input' text × StopsAnywhere text name names names' log log' out out')

@@ -1,0 +1,3 @@
+pub mod CommandsRead
+pub mod EachOf
+pub mod WordsRead

@@ -1,0 +1,5 @@
+pub use Rattle.rs_base.specs.Bytes
+pub mod Faults
+pub mod Known
+pub mod Steps
+pub mod Codes

@@ -1,0 +1,7 @@
+pub mod Asking
+pub mod Cuts
+pub mod Judging
+pub mod Lines
+pub mod PlayLaws
+pub mod StoreLaws
+pub mod Writes

@@ -1,0 +1,10 @@
+pub use Rattle.rs_base.specs.Bytes
+pub use Rattle.rs_base.specs.Escape
+pub use Rattle.resp_read.specs.Frames
+pub use Rattle.rs_outside.specs.Faults
+pub use Rattle.rs_outside.specs.Known
+pub mod Session
+pub mod Requests
+pub mod Machine
+pub mod Transcript
+pub mod Play
