@@ -1,20 +1,20 @@
 -- Reading a source to its end, or past the limit.
 use Rattle.std.specs.Prelude.{◌≡◌, ℕ, ◌<◌, ◌≤◌, List, length, Option}
-use Rattle.rs_outside.specs.Known.{prepended, NoneLeft}
+use Rattle.rs_outside.specs.Known.{items_then, NoneLeft}
 use Rattle.rs_outside.specs.declared.status.Status.{Status}
 use Rattle.rs_outside.specs.declared.status.Status.TheVariants.{SourceFault, InputTooLong, NoMemory}
 use Rattle.redscript.specs.declared.reading.TheConstants.{MAX_INPUT_BYTES}
 
 -- this text was read, and nothing is left; it is within the limit
 pub record HasReadAll (input input' : Option (List ℕ)) (text : List ℕ) : Type 0 where
-  pub read : input ≡ prepended text input'
+  pub read : input ≡ items_then text input'
   pub ended : NoneLeft input'
   pub within : length text ≤ MAX_INPUT_BYTES
 
 -- a text longer than the limit was read
 pub record PassesLimit (input input' : Option (List ℕ)) : Type 0 where
   pub text : List ℕ
-  pub read : input ≡ prepended text input'
+  pub read : input ≡ items_then text input'
   pub long : MAX_INPUT_BYTES < length text
 
 -- why reading stopped

@@ -1,6 +1,6 @@
 ghost use Rattle.std.specs.Prelude.{◌≡◌, ◌+◌, ◌≤◌, ◌<◌, ◌++◌, ℕ, List, length, vec_len, IfOk, IfErr};
 ghost use Rattle.rs_outside.specs.Faults.{Rose};
-ghost use Rattle.rs_outside.specs.Known.{prepended, NoneLeft};
+ghost use Rattle.rs_outside.specs.Known.{items_then, NoneLeft};
 ghost use Rattle.rs_outside.specs.declared.status.Status.{Status};
 ghost use Rattle.redscript.specs.Input.{HasReadAll, StopsReading, StopsPiece};
 
@@ -45,7 +45,7 @@ fn read_piece<S: Source>(
 ) -> Result<usize, Status>
     requires { 0 < length buffer.old }
     ensures ok { IfOk result (λ n. (piece : List ℕ) × (length piece ≡ n) × (text.new ≡ text.old ++ piece)
-        × (S.left input.old ≡ prepended piece (S.left input.new)) × (n ≡ 0 → NoneLeft (S.left input.new))) }
+        × (S.left input.old ≡ items_then piece (S.left input.new)) × (n ≡ 0 → NoneLeft (S.left input.new))) }
     ensures stop { IfErr result (StopsPiece (Rose (S.faults input.old) (S.faults input.new))) }
     ensures later { S.faults input.old ≤ S.faults input.new }
 {

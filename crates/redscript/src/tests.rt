@@ -3,12 +3,14 @@ use crate::running::run;
 use rs_base::{Bytes, NoMemory, Words};
 use rs_outside::{Status, SureLog, SureSink, SureSource, SureWire, Turns};
 use std::alloc::Global;
+use std::process::Abort;
 use std::test::Fail;
 
 const SESSION: &[u8] =
     b"1000 0 1 opened\n1000 0 1 piece *3\\r\\n$3\\r\\nSET\\r\\n$1\\r\\nk\\r\\n$1\\r\\nv\\r\\n*2\\r\\n$3\\r\\nGET\\r\\n$1\\r\\nk\\r\\n\n";
 
 // What a run over the forms in memory left.
+#[derive(Drop)]
 struct Ran {
     status: Status,
     out: SureSink,
@@ -29,9 +31,15 @@ fn run_of(alloc: Global, words: &[&[u8]], session: &[u8]) -> Result<Ran, NoMemor
 }
 
 // A session is played: this is its transcript and its log, begun under one name.
-fn plays(rt: &HostRuntime, session: &[u8], transcript: &[u8], logged: &[u8]) -> Result<(), Fail> {
+fn plays(
+    rt: &impl Abort,
+    alloc: Global,
+    session: &[u8],
+    transcript: &[u8],
+    logged: &[u8],
+) -> Result<(), Fail> {
     let words = [b"play".as_slice(), b"x.log".as_slice()];
-    let ran = run_of(rt.alloc(), &words, session)?;
+    let ran = run_of(alloc, &words, session)?;
     assert_eq!(rt; ran.status, Status::Done);
     assert_eq!(rt; ran.out.taken().as_slice(), transcript);
     assert_eq!(rt; ran.log.taken().as_slice(), logged);
@@ -42,8 +50,14 @@ fn plays(rt: &HostRuntime, session: &[u8], transcript: &[u8], logged: &[u8]) -> 
 }
 
 // A command line or a session is refused: nothing was written and no log begun.
-fn refuses(rt: &HostRuntime, words: &[&[u8]], session: &[u8], status: Status) -> Result<(), Fail> {
-    let ran = run_of(rt.alloc(), words, session)?;
+fn refuses(
+    rt: &impl Abort,
+    alloc: Global,
+    words: &[&[u8]],
+    session: &[u8],
+    status: Status,
+) -> Result<(), Fail> {
+    let ran = run_of(alloc, words, session)?;
     assert_eq!(rt; ran.status, status);
     assert!(rt; ran.out.taken().is_empty());
     assert!(rt; ran.log.taken().is_empty());
@@ -53,9 +67,10 @@ fn refuses(rt: &HostRuntime, words: &[&[u8]], session: &[u8], status: Status) ->
 
 #[test]
 fn plays_sessions(rt: HostRuntime) -> Result<(), Fail> {
-    plays(&rt, b"", b"end turns=0 keys=0 log=0\n", b"")?;
+    plays(&rt, rt.alloc(), b"", b"end turns=0 keys=0 log=0\n", b"")?;
     plays(
         &rt,
+        rt.alloc(),
         SESSION,
         b"1 send +OK\\r\\n\n1 send $1\\r\\nv\\r\\n\nend turns=2 keys=1 log=27\nk string - v\n",
         b"*3\r\n$3\r\nSET\r\n$1\r\nk\r\n$1\r\nv\r\n",
@@ -63,6 +78,7 @@ fn plays_sessions(rt: HostRuntime) -> Result<(), Fail> {
     // A value that is there already is set again without a record, and a key that is not there is null.
     plays(
         &rt,
+        rt.alloc(),
         b"5 1 1 opened\n5 2 1 piece *3\\r\\n$3\\r\\nset\\r\\n$1\\r\\nk\\r\\n$1\\r\\nv\\r\\n\n6 3 1 piece *3\\r\\n$3\\r\\nSET\\r\\n$1\\r\\nk\\r\\n$1\\r\\nv\\r\\n*2\\r\\n$3\\r\\nGet\\r\\n$2\\r\\nno\\r\\n\n",
         b"1 send +OK\\r\\n\n1 send +OK\\r\\n\n1 send $-1\\r\\n\nend turns=3 keys=1 log=27\nk string - v\n",
         b"*3\r\n$3\r\nSET\r\n$1\r\nk\r\n$1\r\nv\r\n",
@@ -75,49 +91,61 @@ fn refuses_sessions(rt: HostRuntime) -> Result<(), Fail> {
     let bad_second = Status::BadInput { line: 2 };
     refuses(
         &rt,
+        rt.alloc(),
         &words,
         b"1000 0 1 opened\n5 0 1 piece \\x41\n",
         bad_second,
     )?;
     refuses(
         &rt,
+        rt.alloc(),
         &words,
         b"1000 0 1 opened\n1001 0 2 opened\n",
         bad_second,
     )?;
     refuses(
         &rt,
+        rt.alloc(),
         &words,
         b"1000 0 1 opened",
         Status::BadInput { line: 1 },
     )?;
-    refuses(&rt, &words, b"\n", Status::BadInput { line: 1 })
+    refuses(&rt, rt.alloc(), &words, b"\n", Status::BadInput { line: 1 })
 }
 
 #[test]
 fn refuses_command_lines(rt: HostRuntime) -> Result<(), Fail> {
-    refuses(&rt, &[], SESSION, Status::Usage)?;
-    refuses(&rt, &[b"play".as_slice()], SESSION, Status::Usage)?;
+    refuses(&rt, rt.alloc(), &[], SESSION, Status::Usage)?;
     refuses(
         &rt,
+        rt.alloc(),
+        &[b"play".as_slice()],
+        SESSION,
+        Status::Usage,
+    )?;
+    refuses(
+        &rt,
+        rt.alloc(),
         &[b"play".as_slice(), b"".as_slice()],
         SESSION,
         Status::Usage,
     )?;
     refuses(
         &rt,
+        rt.alloc(),
         &[b"PLAY".as_slice(), b"x".as_slice()],
         SESSION,
         Status::Usage,
     )?;
     refuses(
         &rt,
+        rt.alloc(),
         &[b"bench".as_slice(), b"5".as_slice()],
         SESSION,
         Status::Usage,
     )?;
     let three = [b"play".as_slice(), b"x".as_slice(), b"y".as_slice()];
-    refuses(&rt, &three, SESSION, Status::Usage)
+    refuses(&rt, rt.alloc(), &three, SESSION, Status::Usage)
 }
 
 #[test]

@@ -3,7 +3,7 @@ use Rattle.std.proofs.Common.{◌≡◌, ℕ, ◌+◌, ◌-◌, ◌^◌, ◌<◌
 use Rattle.std.specs.List.{AllByRecursion, flat_map}
 use Rattle.std.proofs.lemmas.Grind.{flat_map-append}
 use Rattle.resp_read.specs.declared.command.Command.{Command}
-use Rattle.resp_read.specs.Frames.{frame, IsCommand, placed, saturated}
+use Rattle.resp_read.specs.Frames.{frame, IsCommand, commands_from, within_u64}
 use Rattle.resp_read.proofs.EachOf.{each-append, each_behind}
 
 -- `commands` were read off the front of `text`, and `rest` is what follows them
@@ -11,7 +11,7 @@ pub record HasCommands (text : List ℕ) (commands : List Command) (rest : List 
   pub rows : List (List (List ℕ))
   pub each : AllByRecursion IsCommand rows
   pub text_is : text ≡ flat_map frame rows ++ rest
-  pub commands_are : commands ≡ placed 0 rows
+  pub commands_are : commands ≡ commands_from 0 rows
   pub only : (all : List (List (List ℕ))) → AllByRecursion IsCommand all → text ≡ flat_map frame all
       → (more : List (List (List ℕ))) × (all ≡ rows ++ more) × (rest ≡ flat_map frame more)
 
@@ -21,11 +21,11 @@ HasCommands-start text = record { rows = []; each = tt; text_is = refl; commands
 pub HasCommands-length : (text : List ℕ) (commands : List Command) (rest : List ℕ) → HasCommands text commands rest → length rest ≤ length text
 HasCommands-length text commands rest h = let same = ap length h.text_is in let long = length-append (flat_map frame h.rows) rest in omega arith
 
-placed-append : (at : ℕ) (xs ys : List (List (List ℕ))) → placed at (xs ++ ys) ≡ placed at xs ++ placed (at + length (flat_map frame xs)) ys
-placed-append at [] ys = ap (λ n. placed n ys) (omega arith)
-placed-append at (x ∷ xs) ys =
+commands_from-append : (at : ℕ) (xs ys : List (List (List ℕ))) → commands_from at (xs ++ ys) ≡ commands_from at xs ++ commands_from (at + length (flat_map frame xs)) ys
+commands_from-append at [] ys = ap (λ n. commands_from n ys) (omega arith)
+commands_from-append at (x ∷ xs) ys =
     let long : at + length (frame x) + length (flat_map frame xs) ≡ at + length (frame x ++ flat_map frame xs) = omega (arith, length-append (frame x) (flat_map frame xs)) in
-    ap (λ t. record { words = x; place = saturated at } ∷ t) (placed-append (at + length (frame x)) xs ys ∙ ap (λ n. placed (at + length (frame x)) xs ++ placed n ys) long)
+    ap (λ t. record { words = x; place = within_u64 at } ∷ t) (commands_from-append (at + length (frame x)) xs ys ∙ ap (λ n. commands_from (at + length (frame x)) xs ++ commands_from n ys) long)
 
 -- the command behind those that were read
 record NextCommand (all rows : List (List (List ℕ))) (rest : List ℕ) : Type 0 where
@@ -75,20 +75,20 @@ HasCommands-more text commands rest h some small words next fits rest_is one = r
     pushed : (xs : List (List (List ℕ))) (x : List (List ℕ)) → flat_map frame xs ++ frame x ≡ flat_map frame (xs ++ x ∷ [])
     pushed xs x = ap (λ t. flat_map frame xs ++ t) (sym (append-nil (frame x))) ∙ sym (flat_map-append frame xs (x ∷ []))
 
-    place_is : commands ++ record { words = words; place = length text - length rest } ∷ [] ≡ placed 0 (h.rows ++ words ∷ [])
+    place_is : commands ++ record { words = words; place = length text - length rest } ∷ [] ≡ commands_from 0 (h.rows ++ words ∷ [])
     place_is =
         let same = ap length h.text_is in
         let long = length-append (flat_map frame h.rows) rest in
-        let at : length text - length rest ≡ saturated (0 + length (flat_map frame h.rows)) = omega arith in
+        let at : length text - length rest ≡ within_u64 (0 + length (flat_map frame h.rows)) = omega arith in
         ap (λ t. t ++ record { words = words; place = length text - length rest } ∷ []) h.commands_are
-        ∙ ap (λ n. placed 0 h.rows ++ record { words = words; place = n } ∷ []) at
-        ∙ sym (placed-append 0 h.rows (words ∷ []))
+        ∙ ap (λ n. commands_from 0 h.rows ++ record { words = words; place = n } ∷ []) at
+        ∙ sym (commands_from-append 0 h.rows (words ∷ []))
 
 -- all of the text was read
 pub HasCommands-all : (text : List ℕ) (commands : List Command) (rest : List ℕ) → HasCommands text commands rest → rest ≡ []
-    → (all : List (List (List ℕ))) → AllByRecursion IsCommand all → text ≡ flat_map frame all → commands ≡ placed 0 all
+    → (all : List (List (List ℕ))) → AllByRecursion IsCommand all → text ≡ flat_map frame all → commands ≡ commands_from 0 all
 HasCommands-all text commands rest h none all are e =
-    let left = h.only all are e in h.commands_are ∙ ap (placed 0) (by_more left.0 left.1 left.2)
+    let left = h.only all are e in h.commands_are ∙ ap (commands_from 0) (by_more left.0 left.1 left.2)
   where
     by_more : (more : List (List (List ℕ))) → all ≡ h.rows ++ more → rest ≡ flat_map frame more → h.rows ≡ all
     by_more [] all_is rest_is = sym (all_is ∙ append-nil h.rows)

@@ -1,7 +1,7 @@
 ghost use Rattle.std.specs.Prelude.{◌≡◌, ℕ, ◌^◌, ◌<◌, ◌≤◌, ◌∷◌, ◌++◌, List, Some, length, sum_by, IfOk, IfSome, IsSomeAnd};
 ghost use Rattle.std.specs.List.{AllByRecursion, flat_map};
 ghost use Rattle.resp_read.specs.declared.command.TheConstants.{MAX_COMMAND_BYTES};
-ghost use Rattle.resp_read.specs.Frames.{bulk, counted, frame, IsCommand, IsWord, placed};
+ghost use Rattle.resp_read.specs.Frames.{bulk, count_line, frame, IsCommand, IsWord, commands_from};
 
 use crate::{Command, Commands, MAX_COMMAND_BYTES, MAX_WORD_BYTES, MAX_WORDS};
 use rs_base::{Bytes, NoMemory, Words, decimal_prefix};
@@ -11,9 +11,9 @@ use std::alloc::Global;
 /// strings). `Ok(None)` exactly where it is no such row; the empty piece is the empty row.
 pub fn whole_row(alloc: Global, piece: &[u8]) -> Result<Option<Commands>, NoMemory>
     ensures found { IfOk result (λ found. IfSome found (λ commands. (rows : List (List (List ℕ)))
-        × AllByRecursion IsCommand rows × (piece.now ≡ flat_map frame rows) × (commands ≡ placed 0 rows))) }
+        × AllByRecursion IsCommand rows × (piece.now ≡ flat_map frame rows) × (commands ≡ commands_from 0 rows))) }
     ensures only { (rows : List (List (List ℕ))) → AllByRecursion IsCommand rows → piece.now ≡ flat_map frame rows
-        → IfOk result (λ found. found ≡ Some (placed 0 rows)) }
+        → IfOk result (λ found. found ≡ Some (commands_from 0 rows)) }
 {
     let mut commands = Commands::new(alloc);
     let mut rest = piece;
@@ -90,8 +90,8 @@ fn word(text: &[u8], room: u64) -> Option<(&[u8], &[u8])>
 // The number on the line at the front of `text` that begins with `mark`, and what follows that line. `None` exactly
 // where there is no such line.
 fn counted_line(mark: u8, text: &[u8]) -> Option<(u64, &[u8])>
-    ensures found { IfSome result (λ x. text.now ≡ counted mark x.0 ++ x.1.now) }
-    ensures only { (n : ℕ) (rest : List ℕ) → n < 2 ^ 64 → text.now ≡ counted mark n ++ rest
+    ensures found { IfSome result (λ x. text.now ≡ count_line mark x.0 ++ x.1.now) }
+    ensures only { (n : ℕ) (rest : List ℕ) → n < 2 ^ 64 → text.now ≡ count_line mark n ++ rest
         → IsSomeAnd result (λ x. (x.0 ≡ n) × (x.1.now ≡ rest)) }
 {
     let (first, rest) = text.split_first()?;

@@ -1,3 +1,5 @@
 pub mod Bytes
+pub mod Decimals
 pub mod Escape
 pub mod Unescape
+pub mod formers

@@ -54,6 +54,7 @@ impl Bytes {
         bytes
     }
 
+    /// The bytes in order.
     pub fn as_slice(&self) -> &[u8]
         ensures value { result.now ≡ self.now }
         ensures bytes { AreBytes self.now }
@@ -62,6 +63,7 @@ impl Bytes {
         bytes
     }
 
+    /// The number of bytes.
     pub fn len(&self) -> usize
         ensures { result ≡ length self.now }
     {
@@ -114,7 +116,7 @@ impl Eq for Bytes {
     ghost laws = { nat_list_eq_equiv };
 }
 
-/// Byte by byte, and a front of a string before the string.
+/// By the first byte that differs; a string that another one begins with comes before it.
 impl PartialOrd for Bytes {
     ghost use Rattle.std.specs.Prelude.{Some};
     ghost use Rattle.std.specs.Ordering.{nat_cmp};
@@ -157,5 +159,51 @@ impl Clone for Bytes {
         Ok(Bytes {
             bytes: self.bytes.clone()?,
         })
+    }
+}
+
+#[cfg(test)]
+mod tests {
+    use super::*;
+    use std::test::Fail;
+
+    #[test]
+    fn makes_and_changes(rt: HostRuntime) -> Result<(), Fail> {
+        let mut bytes = Bytes::new(rt.alloc());
+        assert!(rt; bytes.is_empty());
+        assert_eq!(rt; bytes.len(), 0);
+        bytes.push(0)?;
+        bytes.append(b"ab\xff")?;
+        bytes.append(b"")?;
+        assert!(rt; !bytes.is_empty());
+        assert_eq!(rt; bytes.len(), 4);
+        assert_eq!(rt; bytes.as_slice(), b"\x00ab\xff".as_slice());
+        let copy = bytes.clone()?;
+        bytes.push(b'c')?;
+        assert_eq!(rt; copy, Bytes::from_slice(rt.alloc(), b"\x00ab\xff")?);
+        assert_ne!(rt; copy, bytes);
+        let back = Bytes::from_vec(bytes.into_vec());
+        assert_eq!(rt; back.as_slice(), b"\x00ab\xffc".as_slice());
+        Ok(())
+    }
+
+    #[test]
+    fn compares(rt: HostRuntime) -> Result<(), Fail> {
+        let rows = [
+            (b"".as_slice(), b"".as_slice(), Ordering::Equal),
+            (b"".as_slice(), b"a".as_slice(), Ordering::Less),
+            (b"ab".as_slice(), b"a".as_slice(), Ordering::Greater),
+            (b"ab".as_slice(), b"b".as_slice(), Ordering::Less),
+            (b"a\xff".as_slice(), b"a\x00".as_slice(), Ordering::Greater),
+            (b"a\x00".as_slice(), b"a\x00".as_slice(), Ordering::Equal),
+        ];
+        for (left, right, order) in rows {
+            let left = Bytes::from_slice(rt.alloc(), left)?;
+            let right = Bytes::from_slice(rt.alloc(), right)?;
+            assert_eq!(rt; left.cmp(&right), order, "{left:?} and {right:?}");
+            assert_eq!(rt; left == right, order == Ordering::Equal);
+            assert_eq!(rt; left < right, order == Ordering::Less);
+        }
+        Ok(())
     }
 }

@@ -35,7 +35,8 @@ fn escape_byte(byte: u8, out: &mut Bytes) -> Result<(), NoMemory>
     Ok(())
 }
 
-/// The bytes that `text` spells. `Ok(None)` exactly where it is no spelling: each string of bytes has one.
+/// The bytes whose spelling by `escape` is `text`. `Ok(None)` exactly where there are none: each string of bytes has
+/// one spelling, and no other is read.
 pub fn unescape(alloc: Global, text: &[u8]) -> Result<Option<Bytes>, NoMemory>
     ensures found { IfOk result (λ found. IfSome found (λ bytes. AreBytes bytes × (text.now ≡ spelling bytes))) }
     ensures only { (bytes : List ℕ) → AreBytes bytes → text.now ≡ spelling bytes → IfOk result (λ found. found ≡ Some bytes) }
@@ -127,5 +128,69 @@ fn hex(digit: u8) -> u8
         b'0' + digit
     } else {
         b'a' + (digit - 10)
+    }
+}
+
+#[cfg(test)]
+mod tests {
+    use super::*;
+    use std::test::Fail;
+
+    #[test]
+    fn spells_and_reads(rt: HostRuntime) -> Result<(), Fail> {
+        let rows = [
+            (b"".as_slice(), b"\\e".as_slice()),
+            (b" ".as_slice(), b"\\s".as_slice()),
+            (b"\r".as_slice(), b"\\r".as_slice()),
+            (b"\n".as_slice(), b"\\n".as_slice()),
+            (b"\\".as_slice(), b"\\\\".as_slice()),
+            (b"\\e".as_slice(), b"\\\\e".as_slice()),
+            (b"\x00".as_slice(), b"\\x00".as_slice()),
+            (b"\t\x1f".as_slice(), b"\\x09\\x1f".as_slice()),
+            (b"\x7f\x80".as_slice(), b"\\x7f\\x80".as_slice()),
+            (b"\xff".as_slice(), b"\\xff".as_slice()),
+            (b"!az~09".as_slice(), b"!az~09".as_slice()),
+            (b"+OK\r\n".as_slice(), b"+OK\\r\\n".as_slice()),
+            (
+                b"-ERR Protocol error: invalid bulk length\r\n".as_slice(),
+                b"-ERR\\sProtocol\\serror:\\sinvalid\\sbulk\\slength\\r\\n".as_slice(),
+            ),
+        ];
+        for (bytes, text) in rows {
+            let mut out = Bytes::new(rt.alloc());
+            escape(bytes, &mut out)?;
+            assert_eq!(rt; out.as_slice(), text);
+            let read = unescape(rt.alloc(), text)?.ok_or("refused")?;
+            assert_eq!(rt; read.as_slice(), bytes);
+        }
+        Ok(())
+    }
+
+    #[test]
+    fn refuses_other_spellings(rt: HostRuntime) -> Result<(), Fail> {
+        let texts = [
+            b"".as_slice(),
+            b"\\x41".as_slice(),
+            b"\\x20".as_slice(),
+            b"\\x5c".as_slice(),
+            b"\\x0d".as_slice(),
+            b"\\x0D".as_slice(),
+            b"\\xAB".as_slice(),
+            b"\\x2".as_slice(),
+            b"\\xg0".as_slice(),
+            b"\\q".as_slice(),
+            b"\\".as_slice(),
+            b"a\\".as_slice(),
+            b"a\\e".as_slice(),
+            b"\\ea".as_slice(),
+            b" ".as_slice(),
+            b"a b".as_slice(),
+            b"\n".as_slice(),
+            b"\x80".as_slice(),
+        ];
+        for text in texts {
+            assert!(rt; unescape(rt.alloc(), text)?.is_none(), "{text:?}");
+        }
+        Ok(())
     }
 }

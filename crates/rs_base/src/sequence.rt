@@ -2,7 +2,7 @@ ghost use Rattle.std.specs.Prelude.{◌≡◌, [], ◌∷◌, ◌++◌, ◌<◌,
 ghost use Rattle.std.specs.Option.{option_copied};
 
 use crate::NoMemory;
-use std::alloc::Global;
+use std::alloc::{AllocError, Global};
 use std::marker::Model;
 
 /// A sequence of items in order. Contracts see it as the list of the items.
@@ -47,12 +47,14 @@ impl<T> Seq<T> {
         items
     }
 
+    /// The items in order.
     pub fn as_slice(&self) -> &[T]
         ensures { result.now ≡ self.now }
     {
         self.items.as_slice()
     }
 
+    /// The number of items.
     pub fn len(&self) -> usize
         ensures { result ≡ length self.now }
     {
@@ -101,4 +103,66 @@ impl<T: Eq> Eq for Seq<T> {
     ghost use Rattle.std.proofs.lemmas.Cmp.{lists_equiv};
 
     ghost laws = { lists_equiv T.Eq.laws };
+}
+
+impl<T: Clone> Clone for Seq<T> {
+    ghost use Rattle.std.specs.List.{AllZip};
+
+    ghost is_clone = { λ old new. AllZip T.is_clone old new };
+
+    fn clone(&self) -> Result<Seq<T>, AllocError> {
+        Ok(Seq {
+            items: self.items.clone()?,
+        })
+    }
+}
+
+#[cfg(test)]
+mod tests {
+    use super::*;
+    use crate::{Bytes, Words};
+    use std::test::Fail;
+
+    fn words(alloc: Global, texts: &[&[u8]]) -> Result<Words, NoMemory> {
+        let mut words = Words::new(alloc);
+        for text in texts {
+            words.push(Bytes::from_slice(alloc, text)?)?;
+        }
+        Ok(words)
+    }
+
+    #[test]
+    fn holds_words(rt: HostRuntime) -> Result<(), Fail> {
+        let empty = Words::new(rt.alloc());
+        assert!(rt; empty.is_empty());
+        assert_eq!(rt; empty.len(), 0);
+        assert!(rt; empty.get(0).is_none());
+        let set = words(rt.alloc(), &[b"SET", b"k", b""])?;
+        assert!(rt; !set.is_empty());
+        assert_eq!(rt; set.len(), 3);
+        for (at, text) in [b"SET".as_slice(), b"k".as_slice(), b"".as_slice()]
+            .iter()
+            .enumerate()
+        {
+            let word = set.get(at).ok_or("no word")?;
+            assert_eq!(rt; word.as_slice(), *text);
+        }
+        for at in [3, 4, usize::MAX] {
+            assert!(rt; set.get(at).is_none(), "{at}");
+        }
+        assert_eq!(rt; set.clone()?, set);
+        assert_ne!(rt; words(rt.alloc(), &[b"SET", b"k"])?, set);
+        assert_ne!(rt; words(rt.alloc(), &[b"SET", b"", b"k"])?, set);
+        assert_eq!(rt; Seq::from_vec(set.into_vec()).len(), 3);
+        Ok(())
+    }
+
+    #[test]
+    fn holds_numbers(rt: HostRuntime) -> Result<(), Fail> {
+        let mut numbers = Seq::from_vec(vec![in rt.alloc(); 7u64, 8]?);
+        numbers.push(9)?;
+        assert_eq!(rt; numbers.as_slice(), [7, 8, 9].as_slice());
+        assert_eq!(rt; numbers.into_vec().as_slice(), [7, 8, 9].as_slice());
+        Ok(())
+    }
 }

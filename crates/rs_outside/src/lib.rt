@@ -7,6 +7,8 @@ mod sink;
 mod source;
 mod status;
 mod stops;
+#[cfg(test)]
+mod tests;
 mod turn;
 mod wire;
 

@@ -1,6 +1,6 @@
 ghost use Rattle.std.specs.Prelude.{◌≡◌, ℕ, ◌≤◌, List, [], ◌∷◌, Option, Some, length, take, IfOk, MatchResult};
 ghost use Rattle.rs_outside.specs.Faults.{Rose, StopsByFault};
-ghost use Rattle.rs_outside.specs.Known.{appended};
+ghost use Rattle.rs_outside.specs.Known.{known_then};
 
 use crate::{IoStop, Sink};
 use rs_base::{Bytes, Words};
@@ -10,7 +10,7 @@ use std::alloc::Global;
 pub trait Log: Sink {
     /// Begins the log of this name, before its first byte. After an error it has not begun.
     fn begin(&mut self, name: &[u8]) -> Result<(), IoStop>
-        ensures names { MatchResult result (λ _. Self.begun self.new ≡ appended (Self.begun self.old) (name.now ∷ [])) (λ _. Self.begun self.new ≡ Self.begun self.old) }
+        ensures names { MatchResult result (λ _. Self.begun self.new ≡ known_then (Self.begun self.old) (name.now ∷ [])) (λ _. Self.begun self.new ≡ Self.begun self.old) }
         ensures bytes { Self.taken self.new ≡ Self.taken self.old }
         ensures later { Self.faults self.old ≤ Self.faults self.new }
         ensures cause { StopsByFault (Self.faults self.old) (Self.faults self.new) result };

@@ -1,6 +1,6 @@
 ghost use Rattle.std.specs.Prelude.{◌≡◌, ℕ, ◌<◌, ◌≤◌, List, [], Option, Some, None, length, take, IfOk, MatchResult};
 ghost use Rattle.rs_outside.specs.Faults.{Rose, StopsByFault};
-ghost use Rattle.rs_outside.specs.Known.{appended};
+ghost use Rattle.rs_outside.specs.Known.{known_then};
 
 use crate::IoStop;
 use rs_base::Bytes;
@@ -22,7 +22,7 @@ pub trait Sink {
     fn write(&mut self, piece: &[u8]) -> Result<usize, IoStop>
         ensures count { IfOk result (λ n. n ≤ length piece.now) }
         ensures some { IfOk result (λ n. 0 < length piece.now → 0 < n) }
-        ensures bytes { MatchResult result (λ n. taken self.new ≡ appended (taken self.old) (take n piece.now)) (λ _. taken self.new ≡ taken self.old) }
+        ensures bytes { MatchResult result (λ n. taken self.new ≡ known_then (taken self.old) (take n piece.now)) (λ _. taken self.new ≡ taken self.old) }
         ensures names { begun self.new ≡ begun self.old }
         ensures later { faults self.old ≤ faults self.new }
         ensures cause { StopsByFault (faults self.old) (faults self.new) result };

@@ -1,6 +1,6 @@
 ghost use Rattle.std.specs.Prelude.{◌≡◌, ℕ, ◌+◌, ◌<◌, ◌≤◌, List, [], Option, Some, length, take, drop, IfOk, OnErr, MatchResult};
 ghost use Rattle.rs_outside.specs.Faults.{Rose};
-ghost use Rattle.rs_outside.specs.Known.{prepended, NoneLeft};
+ghost use Rattle.rs_outside.specs.Known.{items_then, NoneLeft};
 
 use crate::Failed;
 use rs_base::Bytes;
@@ -17,7 +17,7 @@ pub trait Source {
     /// empty the answer is 0 exactly where none is left. After `Failed` all bytes are still left.
     fn read(&mut self, into: &mut [u8]) -> Result<usize, Failed>
         ensures count { IfOk result (λ n. n ≤ length into.new) }
-        ensures bytes { MatchResult result (λ n. left self.old ≡ prepended (take n into.new) (left self.new)) (λ _. left self.new ≡ left self.old) }
+        ensures bytes { MatchResult result (λ n. left self.old ≡ items_then (take n into.new) (left self.new)) (λ _. left self.new ≡ left self.old) }
         ensures end { IfOk result (λ n. 0 < length into.new → n ≡ 0 → NoneLeft (left self.new)) }
         ensures later { faults self.old ≤ faults self.new }
         ensures cause { OnErr result (Rose (faults self.old) (faults self.new)) };

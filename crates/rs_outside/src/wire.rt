@@ -3,7 +3,7 @@ ghost use Rattle.rs_outside.specs.declared.turn.Turn.{Turn};
 ghost use Rattle.rs_outside.specs.declared.turn.OutRow.{OutRow};
 ghost use Rattle.rs_outside.specs.declared.wire.Start.{Start};
 ghost use Rattle.rs_outside.specs.Faults.{StopsByFault};
-ghost use Rattle.rs_outside.specs.Known.{appended};
+ghost use Rattle.rs_outside.specs.Known.{known_then};
 ghost use Rattle.rs_outside.specs.Steps.{TakesStep};
 
 use crate::{IoStop, OutRow, Outs, Turn, Turns};
@@ -45,7 +45,7 @@ pub trait Wire {
 
     /// Starts the wire. After an error it has not started.
     fn start(&mut self, port: u16, word: u64) -> Result<(), IoStop>
-        ensures starts { MatchResult result (λ _. started self.new ≡ appended (started self.old) (record { port = port; word = word } ∷ [])) (λ _. started self.new ≡ started self.old) }
+        ensures starts { MatchResult result (λ _. started self.new ≡ known_then (started self.old) (record { port = port; word = word } ∷ [])) (λ _. started self.new ≡ started self.old) }
         ensures turns { coming self.new ≡ coming self.old }
         ensures rows { sent self.new ≡ sent self.old }
         ensures later { faults self.old ≤ faults self.new }
@@ -61,14 +61,14 @@ pub trait Wire {
 
     /// Sends bytes to a client. It counts no fault: a connection that is lost comes as a turn of its own.
     fn send(&mut self, client: u32, bytes: &[u8]) -> Result<(), NoMemory>
-        ensures rows { MatchResult result (λ _. sent self.new ≡ appended (sent self.old) (OutRow.Sent client bytes.now ∷ [])) (λ _. sent self.new ≡ sent self.old) }
+        ensures rows { MatchResult result (λ _. sent self.new ≡ known_then (sent self.old) (OutRow.Sent client bytes.now ∷ [])) (λ _. sent self.new ≡ sent self.old) }
         ensures turns { coming self.new ≡ coming self.old }
         ensures starts { started self.new ≡ started self.old }
         ensures faultless { faults self.new ≡ faults self.old };
 
     /// Shuts a client's connection. It counts no fault.
     fn shut(&mut self, client: u32) -> Result<(), NoMemory>
-        ensures rows { MatchResult result (λ _. sent self.new ≡ appended (sent self.old) (OutRow.Shut client ∷ [])) (λ _. sent self.new ≡ sent self.old) }
+        ensures rows { MatchResult result (λ _. sent self.new ≡ known_then (sent self.old) (OutRow.Shut client ∷ [])) (λ _. sent self.new ≡ sent self.old) }
         ensures turns { coming self.new ≡ coming self.old }
         ensures starts { started self.new ≡ started self.old }
         ensures faultless { faults self.new ≡ faults self.old };

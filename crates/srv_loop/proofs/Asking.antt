@@ -3,7 +3,7 @@ use Rattle.std.proofs.Common.{◌≡◌, ℕ, ◌+◌, ◌<◌, ◌≤◌, List,
 use Rattle.std.specs.List.{AllByRecursion, flat_map}
 use Rattle.std.proofs.lemmas.Option.{same_Some, none-some}
 use Rattle.rs_base.specs.Bytes.{AreBytes}
-use Rattle.resp_read.specs.Frames.{frame, placed, IsCommand}
+use Rattle.resp_read.specs.Frames.{frame, commands_from, IsCommand}
 use Rattle.resp_read.specs.declared.command.Command.{Command}
 use Rattle.srv_loop.specs.declared.request.Request.{Request}
 use Rattle.srv_loop.specs.declared.session.TheConstants.{MAX_PIECE_BYTES}
@@ -66,7 +66,7 @@ HasAsked-only commands left requests h none all asked =
     ended [] e none = sym (e ∙ append-nil requests)
     ended (other ∷ others) e none = absurd none
 
-words_of_placed : (at : ℕ) (rows : List (List (List ℕ))) → words_of (placed at rows) ≡ rows
+words_of_placed : (at : ℕ) (rows : List (List (List ℕ))) → words_of (commands_from at rows) ≡ rows
 words_of_placed at [] = refl
 words_of_placed at (words ∷ rows) = ap (λ t. words ∷ t) (words_of_placed (at + length (frame words)) rows)
 
@@ -75,21 +75,21 @@ some_requests bytes [] requests some e asked = absurd (some e)
 some_requests bytes (words ∷ rows) [] some e asked = absurd asked
 some_requests bytes (words ∷ rows) (request ∷ requests) some e asked = omega arith
 
-asked_by : (commands : List Command) (rows : List (List (List ℕ))) (requests : List Request) → commands ≡ placed 0 rows → AskInOrder (words_of commands) requests → AskInOrder rows requests
+asked_by : (commands : List Command) (rows : List (List (List ℕ))) (requests : List Request) → commands ≡ commands_from 0 rows → AskInOrder (words_of commands) requests → AskInOrder rows requests
 asked_by commands rows requests e asked = subst (λ r. AskInOrder r requests) (ap words_of e ∙ words_of_placed 0 rows) asked
 
 -- the commands of a whole row, and their requests, make a piece
 pub IsPiece-from_commands : (bytes : List ℕ) (commands : List Command) (requests : List Request) → AreBytes bytes → length bytes ≤ MAX_PIECE_BYTES → (bytes ≡ [] → ⊥)
-    → (rows : List (List (List ℕ))) × AllByRecursion IsCommand rows × (bytes ≡ flat_map frame rows) × (commands ≡ placed 0 rows) → AskInOrder (words_of commands) requests → IsPiece bytes requests
+    → (rows : List (List (List ℕ))) × AllByRecursion IsCommand rows × (bytes ≡ flat_map frame rows) × (commands ≡ commands_from 0 rows) → AskInOrder (words_of commands) requests → IsPiece bytes requests
 IsPiece-from_commands bytes commands requests are short some row asked =
     let in_order = asked_by commands row.0 requests row.3 asked in
     record { bytes_are = are; short = short; rows = row.0; commands = row.1; text = row.2; asked = in_order; some = some_requests bytes row.0 requests some row.2 in_order }
 
 -- the requests of a piece are those of its commands
 pub asked_by_piece : (bytes : List ℕ) (commands : List Command) (requests : List Request) (found : Option (List Command)) → IsPiece bytes requests
-    → ((rows : List (List (List ℕ))) → AllByRecursion IsCommand rows → bytes ≡ flat_map frame rows → found ≡ Some (placed 0 rows)) → found ≡ Some commands → AskInOrder (words_of commands) requests
+    → ((rows : List (List (List ℕ))) → AllByRecursion IsCommand rows → bytes ≡ flat_map frame rows → found ≡ Some (commands_from 0 rows)) → found ≡ Some commands → AskInOrder (words_of commands) requests
 asked_by_piece bytes commands requests found piece whole is =
-    let same : placed 0 piece.rows ≡ commands = same_Some (placed 0 piece.rows) commands (sym (whole piece.rows piece.commands piece.text) ∙ is) in
+    let same : commands_from 0 piece.rows ≡ commands = same_Some (commands_from 0 piece.rows) commands (sym (whole piece.rows piece.commands piece.text) ∙ is) in
     subst (λ c. AskInOrder (words_of c) requests) same (subst (λ r. AskInOrder r requests) (sym (words_of_placed 0 piece.rows)) piece.asked)
 
 -- a piece has some bytes

@@ -50,7 +50,7 @@ pub IsRead-more : (text rest more : List ℕ) (line : ℕ) (arrival : Arrival) �
 IsRead-more text rest more line arrival h is rest_is alone =
     let some = some_bytes arrival in
     let long = ap length rest_is in
-    let counted = h.line_is in
+    let count_line = h.line_is in
     let below = h.short in
     record {
       before = h.before ++ arrival ∷ [];

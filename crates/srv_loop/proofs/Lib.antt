@@ -1,5 +1,6 @@
 pub mod Asking
 pub mod Cuts
+pub mod HistoryLaws
 pub mod Judging
 pub mod Lines
 pub mod PlayLaws

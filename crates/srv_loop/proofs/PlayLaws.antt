@@ -3,17 +3,17 @@ use Rattle.std.proofs.Common.{◌≡◌, ◌⊎◌, inl, inr, ℕ, suc, ◌+◌,
 use Rattle.std.specs.List.{AllByRecursion, flat_map}
 use Rattle.std.proofs.lemmas.Grind.{flat_map-append}
 use Rattle.std.proofs.lemmas.List.Sums.{fold-append}
-use Rattle.rs_outside.specs.Known.{appended}
+use Rattle.rs_outside.specs.Known.{known_then}
 use Rattle.rs_outside.specs.Faults.{Rose}
 use Rattle.rs_outside.specs.declared.status.Status.{Status}
 use Rattle.rs_outside.specs.declared.status.Status.TheVariants.{Done, Usage, BadInput, SourceFault, SinkFault, LogFault, NoMemory, InputTooLong}
-use Rattle.resp_read.specs.Frames.{saturated}
+use Rattle.resp_read.specs.Frames.{within_u64}
 use Rattle.srv_loop.specs.declared.arrival.Arrival.{Arrival}
 use Rattle.srv_loop.specs.Session.{IsArrival, IsSession, arrival_line, session_text}
 use Rattle.srv_loop.specs.Machine.{Run, State, step, with_turn, run_of, silent, beginning, state, outs, log_bytes}
 use Rattle.srv_loop.specs.Transcript.{row_line, row_lines, ending, transcript}
 use Rattle.srv_loop.specs.Play.{TookPrefix, CutsPlay, CutsTurn, next_log, lines_due, Stops, Never}
-use Rattle.srv_loop.proofs.Writes.{appended-append, appended-nil, TookPrefix-all, TookPrefix-none}
+use Rattle.srv_loop.proofs.Writes.{known_then-append, known_then-nil, TookPrefix-all, TookPrefix-none}
 
 -- the turns up to here were taken, and the others are to come
 pub record UpTo (arrivals : List Arrival) (rest : List ℕ) (machine : State) (turns logged : ℕ) (log log' out out' : Option (List ℕ)) : Type 0 where
@@ -24,9 +24,9 @@ pub record UpTo (arrivals : List Arrival) (rest : List ℕ) (machine : State) (t
   pub rest_is : rest ≡ session_text others
   pub machine_is : machine ≡ state whole
   pub turns_are : turns ≡ length whole
-  pub logged_are : logged ≡ saturated (length (log_bytes whole))
-  pub log_is : log' ≡ appended log (log_bytes whole)
-  pub out_is : out' ≡ appended out (row_lines (outs whole))
+  pub logged_are : logged ≡ within_u64 (length (log_bytes whole))
+  pub log_is : log' ≡ known_then log (log_bytes whole)
+  pub out_is : out' ≡ known_then out (row_lines (outs whole))
 
 pub UpTo-start : (text : List ℕ) (arrivals : List Arrival) (log out : Option (List ℕ)) → IsSession text arrivals → UpTo arrivals text beginning 0 0 log log out out
 UpTo-start text arrivals log out h = record {
@@ -38,8 +38,8 @@ UpTo-start text arrivals log out h = record {
   machine_is = refl;
   turns_are = refl;
   logged_are = refl;
-  log_is = sym (appended-nil log);
-  out_is = sym (appended-nil out);
+  log_is = sym (known_then-nil log);
+  out_is = sym (known_then-nil out);
 }
 
 run-push : (whole : List Arrival) (arrival : Arrival) → run_of (whole ++ arrival ∷ []) ≡ with_turn (run_of whole) arrival
@@ -51,8 +51,8 @@ lines-push whole arrival = ap (λ r. row_lines r.rows) (run-push whole arrival) 
 log-push : (whole : List Arrival) (arrival : Arrival) → log_bytes (whole ++ arrival ∷ []) ≡ log_bytes whole ++ (step (state whole) arrival).log
 log-push whole arrival = ap (λ r. r.log) (run-push whole arrival)
 
-counted_more : (a b n logged logged' : ℕ) → logged ≡ saturated a → n ≡ b → logged' ≡ min (logged + n) (2 ^ 64 - 1) → logged' ≡ saturated (a + b)
-counted_more a b n logged logged' is n_is more = omega arith
+logged_more : (a b n logged logged' : ℕ) → logged ≡ within_u64 a → n ≡ b → logged' ≡ min (logged + n) (2 ^ 64 - 1) → logged' ≡ within_u64 (a + b)
+logged_more a b n logged logged' is n_is more = omega arith
 
 -- the line that was read is the next turn's
 next_is : (others : List Arrival) (rest : List ℕ) (arrival : Arrival) (more : List ℕ) → AllByRecursion IsArrival others → rest ≡ session_text others → 0 < length rest
@@ -67,7 +67,7 @@ pub UpTo-more : (arrivals : List Arrival) (rest : List ℕ) (machine : State) (t
     → (arrival : Arrival) (more : List ℕ) (machine' : State) (n logged' : ℕ) (log'' out'' : Option (List ℕ)) → 0 < length rest
     → ((a : Arrival) (m : List ℕ) → IsArrival a → rest ≡ arrival_line a ++ m → (arrival ≡ a) × (more ≡ m))
     → machine' ≡ (step machine arrival).state → n ≡ length (step machine arrival).log → logged' ≡ min (logged + n) (2 ^ 64 - 1)
-    → log'' ≡ appended log' (step machine arrival).log → out'' ≡ appended out' (row_lines (step machine arrival).rows)
+    → log'' ≡ known_then log' (step machine arrival).log → out'' ≡ known_then out' (row_lines (step machine arrival).rows)
     → UpTo arrivals more machine' (turns + 1) logged' log log'' out out''
 UpTo-more arrivals rest machine turns logged log log' out out' h arrival more machine' n logged' log'' out'' some only machine_is n_is logged_is log_is out_is =
     let next = next_is h.others rest arrival more h.each h.rest_is some only in
@@ -80,17 +80,17 @@ UpTo-more arrivals rest machine turns logged log log' out out' h arrival more ma
       rest_is = next.3;
       machine_is = machine_is ∙ ap (λ r. r.state) turn_is ∙ sym (ap (λ r. r.state) (run-push h.whole arrival));
       turns_are = omega (arith, h.turns_are, length-append h.whole (arrival ∷ []));
-      logged_are = counted_more (length (log_bytes h.whole)) (length (step (state h.whole) arrival).log) n logged logged' h.logged_are (n_is ∙ ap (λ r. length r.log) turn_is) logged_is
-          ∙ ap saturated (sym (ap length (log-push h.whole arrival) ∙ length-append (log_bytes h.whole) (step (state h.whole) arrival).log));
-      log_is = log_is ∙ ap (λ r. appended log' r.log) turn_is ∙ ap (λ k. appended k (step (state h.whole) arrival).log) h.log_is
-          ∙ appended-append log (log_bytes h.whole) (step (state h.whole) arrival).log ∙ ap (appended log) (sym (log-push h.whole arrival));
-      out_is = out_is ∙ ap (λ r. appended out' (row_lines r.rows)) turn_is ∙ ap (λ k. appended k (row_lines (step (state h.whole) arrival).rows)) h.out_is
-          ∙ appended-append out (row_lines (outs h.whole)) (row_lines (step (state h.whole) arrival).rows) ∙ ap (appended out) (sym (lines-push h.whole arrival));
+      logged_are = logged_more (length (log_bytes h.whole)) (length (step (state h.whole) arrival).log) n logged logged' h.logged_are (n_is ∙ ap (λ r. length r.log) turn_is) logged_is
+          ∙ ap within_u64 (sym (ap length (log-push h.whole arrival) ∙ length-append (log_bytes h.whole) (step (state h.whole) arrival).log));
+      log_is = log_is ∙ ap (λ r. known_then log' r.log) turn_is ∙ ap (λ k. known_then k (step (state h.whole) arrival).log) h.log_is
+          ∙ known_then-append log (log_bytes h.whole) (step (state h.whole) arrival).log ∙ ap (known_then log) (sym (log-push h.whole arrival));
+      out_is = out_is ∙ ap (λ r. known_then out' (row_lines r.rows)) turn_is ∙ ap (λ k. known_then k (row_lines (step (state h.whole) arrival).rows)) h.out_is
+          ∙ known_then-append out (row_lines (outs h.whole)) (row_lines (step (state h.whole) arrival).rows) ∙ ap (known_then out) (sym (lines-push h.whole arrival));
     }
 
 -- what may follow the lines of the first turns
 lines_after : (whole others : List Arrival) → (more : List ℕ) × (lines_due whole others ≡ row_lines (outs whole) ++ more)
-lines_after whole [] = (ending (length whole) (saturated (length (log_bytes whole))) (state whole).store, refl)
+lines_after whole [] = (ending (length whole) (within_u64 (length (log_bytes whole))) (state whole).store, refl)
 lines_after whole (arrival ∷ others) = ([], sym (append-nil (row_lines (outs whole))))
 
 -- a play that stops between two turns
@@ -102,7 +102,7 @@ CutsPlay-between arrivals rest machine turns logged log log' out out' h =
       whole = h.whole;
       others = h.others;
       arrivals_are = h.arrivals_are;
-      logged = TookPrefix-none (appended log (log_bytes h.whole)) log' (next_log h.whole h.others) h.log_is;
+      logged = TookPrefix-none (known_then log (log_bytes h.whole)) log' (next_log h.whole h.others) h.log_is;
       written = record { prefix = row_lines (outs h.whole); rest = after.0; bytes_are = after.1; took = h.out_is };
     }
 
@@ -131,12 +131,12 @@ CutsPlay-within arrivals rest machine turns logged log log' out out' h arrival m
         prefix = cut.logged.prefix;
         rest = cut.logged.rest;
         bytes_are = ap (λ r. r.log) (sym turn_is) ∙ cut.logged.bytes_are;
-        took = cut.logged.took ∙ ap (λ k. appended k cut.logged.prefix) h.log_is;
+        took = cut.logged.took ∙ ap (λ k. known_then k cut.logged.prefix) h.log_is;
       };
       written = TookPrefix-all out out'' (row_lines (outs h.whole)) (same ∙ h.out_is);
     }
 
-    behind_log : log'' ≡ appended log' (step machine arrival).log → CutsPlay arrivals log log'' out out''
+    behind_log : log'' ≡ known_then log' (step machine arrival).log → CutsPlay arrivals log log'' out out''
     behind_log all =
         let whole = h.whole ++ arrival ∷ [] in
         let after = lines_after whole next.0 in
@@ -144,19 +144,19 @@ CutsPlay-within arrivals rest machine turns logged log log' out out' h arrival m
           whole = whole;
           others = next.0;
           arrivals_are = h.arrivals_are ∙ ap (λ t. h.whole ++ t) next.1 ∙ sym (append_assoc h.whole (arrival ∷ []) next.0);
-          logged = TookPrefix-none (appended log (log_bytes whole)) log'' (next_log whole next.0)
-              (all ∙ ap (λ r. appended log' r.log) turn_is ∙ ap (λ k. appended k (step (state h.whole) arrival).log) h.log_is
-              ∙ appended-append log (log_bytes h.whole) (step (state h.whole) arrival).log ∙ ap (appended log) (sym (log-push h.whole arrival)));
+          logged = TookPrefix-none (known_then log (log_bytes whole)) log'' (next_log whole next.0)
+              (all ∙ ap (λ r. known_then log' r.log) turn_is ∙ ap (λ k. known_then k (step (state h.whole) arrival).log) h.log_is
+              ∙ known_then-append log (log_bytes h.whole) (step (state h.whole) arrival).log ∙ ap (known_then log) (sym (log-push h.whole arrival)));
           written = record {
             prefix = row_lines (outs h.whole) ++ cut.written.prefix;
             rest = cut.written.rest ++ after.0;
             bytes_are = after.1 ∙ ap (λ t. t ++ after.0) (lines-push h.whole arrival ∙ ap (λ r. row_lines (outs h.whole) ++ row_lines r.rows) (sym turn_is)
                 ∙ ap (λ t. row_lines (outs h.whole) ++ t) cut.written.bytes_are) ∙ regrouped (row_lines (outs h.whole)) cut.written.prefix cut.written.rest after.0;
-            took = cut.written.took ∙ ap (λ k. appended k cut.written.prefix) h.out_is ∙ appended-append out (row_lines (outs h.whole)) cut.written.prefix;
+            took = cut.written.took ∙ ap (λ k. known_then k cut.written.prefix) h.out_is ∙ known_then-append out (row_lines (outs h.whole)) cut.written.prefix;
           };
         }
 
-    by_order : (out'' ≡ out') ⊎ (log'' ≡ appended log' (step machine arrival).log) → CutsPlay arrivals log log'' out out''
+    by_order : (out'' ≡ out') ⊎ (log'' ≡ known_then log' (step machine arrival).log) → CutsPlay arrivals log log'' out out''
     by_order (inl same) = before_lines same
     by_order (inr all) = behind_log all
 
@@ -183,19 +183,19 @@ all_played arrivals rest machine turns logged log log' out out' h none =
     let over = no_lines h.others (sym h.rest_is ∙ none) in
     (over, h.arrivals_are ∙ ap (λ t. h.whole ++ t) over ∙ append-nil h.whole)
 
-ending_is : (whole : List Arrival) (machine : State) (turns logged : ℕ) → machine ≡ state whole → turns ≡ length whole → logged ≡ saturated (length (log_bytes whole))
+ending_is : (whole : List Arrival) (machine : State) (turns logged : ℕ) → machine ≡ state whole → turns ≡ length whole → logged ≡ within_u64 (length (log_bytes whole))
     → row_lines (outs whole) ++ ending turns logged machine.store ≡ transcript whole
 ending_is whole machine turns logged machine_is turns_are logged_are =
     ap (λ m. row_lines (outs whole) ++ ending turns logged m.store) machine_is ∙ ap (λ t. row_lines (outs whole) ++ ending t logged (state whole).store) turns_are
     ∙ ap (λ b. row_lines (outs whole) ++ ending (length whole) b (state whole).store) logged_are
 
 pub Played-all : (arrivals : List Arrival) (rest : List ℕ) (machine : State) (turns logged : ℕ) (log log' out out' out'' : Option (List ℕ)) → UpTo arrivals rest machine turns logged log log' out out'
-    → rest ≡ [] → out'' ≡ appended out' (ending turns logged machine.store) → (log' ≡ appended log (log_bytes arrivals)) × (out'' ≡ appended out (transcript arrivals))
+    → rest ≡ [] → out'' ≡ known_then out' (ending turns logged machine.store) → (log' ≡ known_then log (log_bytes arrivals)) × (out'' ≡ known_then out (transcript arrivals))
 Played-all arrivals rest machine turns logged log log' out out' out'' h none wrote =
     let all = all_played arrivals rest machine turns logged log log' out out' h none in (
-      h.log_is ∙ ap (λ a. appended log (log_bytes a)) (sym all.1),
-      wrote ∙ ap (λ k. appended k (ending turns logged machine.store)) h.out_is ∙ appended-append out (row_lines (outs h.whole)) (ending turns logged machine.store)
-          ∙ ap (appended out) (ending_is h.whole machine turns logged h.machine_is h.turns_are h.logged_are ∙ ap transcript (sym all.1)),
+      h.log_is ∙ ap (λ a. known_then log (log_bytes a)) (sym all.1),
+      wrote ∙ ap (λ k. known_then k (ending turns logged machine.store)) h.out_is ∙ known_then-append out (row_lines (outs h.whole)) (ending turns logged machine.store)
+          ∙ ap (known_then out) (ending_is h.whole machine turns logged h.machine_is h.turns_are h.logged_are ∙ ap transcript (sym all.1)),
     )
 
 -- a play that stops behind its last turn
@@ -207,12 +207,12 @@ CutsPlay-ending arrivals rest machine turns logged log log' out out' out'' h non
       whole = h.whole;
       others = [];
       arrivals_are = all.1 ∙ sym (append-nil h.whole);
-      logged = TookPrefix-none (appended log (log_bytes h.whole)) log' [] h.log_is;
+      logged = TookPrefix-none (known_then log (log_bytes h.whole)) log' [] h.log_is;
       written = record {
         prefix = row_lines (outs h.whole) ++ took.prefix;
         rest = took.rest;
         bytes_are = sym (ending_is h.whole machine turns logged h.machine_is h.turns_are h.logged_are) ∙ ap (λ t. row_lines (outs h.whole) ++ t) took.bytes_are
             ∙ sym (append_assoc (row_lines (outs h.whole)) took.prefix took.rest);
-        took = took.took ∙ ap (λ k. appended k took.prefix) h.out_is ∙ appended-append out (row_lines (outs h.whole)) took.prefix;
+        took = took.took ∙ ap (λ k. known_then k took.prefix) h.out_is ∙ known_then-append out (row_lines (outs h.whole)) took.prefix;
       };
     }

@@ -6,5 +6,6 @@ pub use Rattle.rs_outside.specs.Known
 pub mod Session
 pub mod Requests
 pub mod Machine
+pub mod History
 pub mod Transcript
 pub mod Play

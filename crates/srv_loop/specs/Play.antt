@@ -1,6 +1,6 @@
 -- What playing a session does to the log and the output.
 use Rattle.std.specs.Prelude.{◌≡◌, ◌⊎◌, ℕ, List, [], ◌∷◌, ◌++◌, Option}
-use Rattle.rs_outside.specs.Known.{appended}
+use Rattle.rs_outside.specs.Known.{known_then}
 use Rattle.rs_outside.specs.declared.status.Status.{Status}
 use Rattle.rs_outside.specs.declared.status.Status.TheVariants.{Done, BadInput, LogFault, SinkFault, NoMemory}
 use Rattle.srv_loop.specs.declared.arrival.Arrival.{Arrival}
@@ -10,16 +10,16 @@ use Rattle.srv_loop.specs.Transcript.{row_lines, transcript}
 
 -- the log was begun under this name and took the log bytes of these turns, and the output took their transcript
 pub record Plays (name : List ℕ) (arrivals : List Arrival) (names names' : Option (List (List ℕ))) (log log' out out' : Option (List ℕ)) : Type 0 where
-  pub begun : names' ≡ appended names (name ∷ [])
-  pub logged : log' ≡ appended log (log_bytes arrivals)
-  pub written : out' ≡ appended out (transcript arrivals)
+  pub begun : names' ≡ known_then names (name ∷ [])
+  pub logged : log' ≡ known_then log (log_bytes arrivals)
+  pub written : out' ≡ known_then out (transcript arrivals)
 
 -- a prefix of these bytes was taken
 pub record TookPrefix (old new : Option (List ℕ)) (bytes : List ℕ) : Type 0 where
   pub prefix : List ℕ
   pub rest : List ℕ
   pub bytes_are : bytes ≡ prefix ++ rest
-  pub took : new ≡ appended old prefix
+  pub took : new ≡ known_then old prefix
 
 -- the log bytes of the turn after these
 abbrev pub next_log : List Arrival → List Arrival → List ℕ
@@ -37,7 +37,7 @@ pub record CutsPlay (arrivals : List Arrival) (log log' out out' : Option (List 
   pub whole : List Arrival
   pub others : List Arrival
   pub arrivals_are : arrivals ≡ whole ++ others
-  pub logged : TookPrefix (appended log (log_bytes whole)) log' (next_log whole others)
+  pub logged : TookPrefix (known_then log (log_bytes whole)) log' (next_log whole others)
   pub written : TookPrefix out out' (lines_due whole others)
 
 -- A turn that ended anywhere: a prefix of its log bytes was taken and a prefix of its rows' lines, these only behind the
@@ -45,14 +45,14 @@ pub record CutsPlay (arrivals : List Arrival) (log log' out out' : Option (List 
 pub record CutsTurn (turn : Run) (log log' out out' : Option (List ℕ)) : Type 0 where
   pub logged : TookPrefix log log' turn.log
   pub written : TookPrefix out out' (row_lines turn.rows)
-  pub order : (out' ≡ out) ⊎ (log' ≡ appended log turn.log)
+  pub order : (out' ≡ out) ⊎ (log' ≡ known_then log turn.log)
 
 -- Wherever a play of this text ended: nothing was begun or taken; or the text is a session, the log was begun, and the
 -- play was cut.
 abbrev pub StopsAnywhere : List ℕ → List ℕ → Option (List (List ℕ)) → Option (List (List ℕ)) → Option (List ℕ) → Option (List ℕ) → Option (List ℕ) → Option (List ℕ) → Type 0
 StopsAnywhere text name names names' log log' out out' =
     ((names' ≡ names) × (log' ≡ log) × (out' ≡ out))
-    ⊎ ((names' ≡ appended names (name ∷ [])) × ((arrivals : List Arrival) × IsSession text arrivals × CutsPlay arrivals log log' out out'))
+    ⊎ ((names' ≡ known_then names (name ∷ [])) × ((arrivals : List Arrival) × IsSession text arrivals × CutsPlay arrivals log log' out out'))
 
 -- the statuses that a play ends with
 abbrev pub IsPlayStatus : Status → Type 0

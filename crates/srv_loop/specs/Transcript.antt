@@ -3,7 +3,7 @@ use Rattle.std.specs.Prelude.{ℕ, List, [], ◌∷◌, ◌++◌, length, decima
 use Rattle.std.specs.List.{flat_map}
 use Rattle.std.specs.FinMap as map
 use Rattle.rs_base.specs.Escape.{spelling}
-use Rattle.resp_read.specs.Frames.{saturated}
+use Rattle.resp_read.specs.Frames.{within_u64}
 use Rattle.rs_outside.specs.declared.turn.OutRow.{OutRow}
 use Rattle.rs_outside.specs.declared.turn.OutRow.TheVariants.{Sent, Shut}
 use Rattle.srv_loop.specs.declared.arrival.Arrival.{Arrival}
@@ -32,4 +32,4 @@ ending turns logged store = codes "end turns=" ++ decimal turns ++ codes " keys=
 
 -- The count of log bytes stands still at the last value of a `u64`.
 abbrev pub transcript : List Arrival → List ℕ
-transcript arrivals = row_lines (outs arrivals) ++ ending (length arrivals) (saturated (length (log_bytes arrivals))) (state arrivals).store
+transcript arrivals = row_lines (outs arrivals) ++ ending (length arrivals) (within_u64 (length (log_bytes arrivals))) (state arrivals).store

@@ -1,11 +1,11 @@
 ghost use Rattle.std.specs.Prelude.{◌≡◌, [], ◌∷◌, ◌++◌, codes, OnOk};
-ghost use Rattle.resp_read.specs.Frames.{counted, bulk, frame};
+ghost use Rattle.resp_read.specs.Frames.{count_line, bulk, frame};
 
 use rs_base::{Bytes, NoMemory, write_decimal};
 
 /// Adds a mark, a number and the end of a line.
 pub fn write_counted(mark: u8, n: u64, out: &mut Bytes) -> Result<(), NoMemory>
-    ensures { OnOk result (out.new ≡ out.old ++ counted mark n) }
+    ensures { OnOk result (out.new ≡ out.old ++ count_line mark n) }
 {
     out.push(mark)?;
     write_decimal(n, out)?;

@@ -3,15 +3,19 @@
 
 mod arrival;
 mod frames;
+mod history;
 mod machine;
 mod playing;
 mod request;
 mod session;
 mod store;
+#[cfg(test)]
+mod tests;
 mod transcript;
 mod writing;
 
 pub use arrival::Arrival;
+pub use history::answers_follow_history;
 pub use playing::play;
 pub use request::Request;
 pub use session::{MAX_PIECE_BYTES, session_line};

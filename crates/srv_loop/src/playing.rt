@@ -1,7 +1,7 @@
 ghost use Rattle.std.specs.Prelude.{◌≡◌, ◌⊎◌, ℕ, ◌≤◌, List, ◌∷◌, [], length, IfOk, OnOk, IfErr, IsErrAnd};
 ghost use Rattle.rs_outside.specs.declared.status.Status.{Status};
 ghost use Rattle.rs_outside.specs.Faults.{Rose};
-ghost use Rattle.rs_outside.specs.Known.{appended};
+ghost use Rattle.rs_outside.specs.Known.{known_then};
 ghost use Rattle.srv_loop.specs.declared.arrival.Arrival.{Arrival};
 ghost use Rattle.srv_loop.specs.Session.{IsSession, IsBadLine};
 ghost use Rattle.srv_loop.specs.Machine.{step, log_bytes};
@@ -89,7 +89,7 @@ fn play_turns<O: Sink, L: Log>(
 ) -> Result<(), Status>
     requires { (arrivals : List Arrival) × IsSession session.now arrivals }
     ensures ok { (arrivals : List Arrival) → IsSession session.now arrivals → OnOk result
-        ((L.taken log.new ≡ appended (L.taken log.old) (log_bytes arrivals)) × (O.taken out.new ≡ appended (O.taken out.old) (transcript arrivals))) }
+        ((L.taken log.new ≡ known_then (L.taken log.old) (log_bytes arrivals)) × (O.taken out.new ≡ known_then (O.taken out.old) (transcript arrivals))) }
     ensures stop { IfErr result (Stops Never (Rose (L.faults log.old) (L.faults log.new)) (Rose (O.faults out.old) (O.faults out.new))) }
     ensures names { L.begun log.new ≡ L.begun log.old }
     ensures cut { (arrivals : List Arrival) → IsSession session.now arrivals → CutsPlay arrivals (L.taken log.old) (L.taken log.new) (O.taken out.old) (O.taken out.new) }
@@ -121,8 +121,8 @@ fn play_turn<O: Sink, L: Log>(
     log: &mut L,
 ) -> Result<u64, Status>
     ensures ok { IfOk result (λ n. (machine.new ≡ (step machine.old arrival).state) × (n ≡ length (step machine.old arrival).log)
-        × (L.taken log.new ≡ appended (L.taken log.old) (step machine.old arrival).log)
-        × (O.taken out.new ≡ appended (O.taken out.old) (row_lines (step machine.old arrival).rows))) }
+        × (L.taken log.new ≡ known_then (L.taken log.old) (step machine.old arrival).log)
+        × (O.taken out.new ≡ known_then (O.taken out.old) (row_lines (step machine.old arrival).rows))) }
     ensures stop { IfErr result (Stops Never (Rose (L.faults log.old) (L.faults log.new)) (Rose (O.faults out.old) (O.faults out.new))) }
     ensures names { L.begun log.new ≡ L.begun log.old }
     ensures cut { CutsTurn (step machine.old arrival) (L.taken log.old) (L.taken log.new) (O.taken out.old) (O.taken out.new) }
@@ -147,7 +147,7 @@ fn write_ending<O: Sink>(
     logged: u64,
     out: &mut O,
 ) -> Result<(), Status>
-    ensures ok { OnOk result (O.taken out.new ≡ appended (O.taken out.old) (ending turns logged machine.now.store)) }
+    ensures ok { OnOk result (O.taken out.new ≡ known_then (O.taken out.old) (ending turns logged machine.now.store)) }
     ensures stop { IfErr result (Stops Never ⊥ (Rose (O.faults out.old) (O.faults out.new))) }
     ensures cut { TookPrefix (O.taken out.old) (O.taken out.new) (ending turns logged machine.now.store) }
     ensures later { O.faults out.old ≤ O.faults out.new }

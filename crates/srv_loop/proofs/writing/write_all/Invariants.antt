@@ -1,5 +1,5 @@
 use Rattle.std.proofs.Common.{◌≡◌, ◌≤◌, ◌++◌, List, ℕ, length}
-use Rattle.rs_outside.specs.Known.{appended}
+use Rattle.rs_outside.specs.Known.{known_then}
 use Rattle.srv_loop.proofs.Writes.{IsWriting}
 use Rattle.srv_loop.proofs.writing.write_all.Given as goal
 
