@@ -73,7 +73,7 @@ history_of_all : (requests : List Request) (run : Run) (before : List Request) �
 history_of_all [] run before h = subst (IsHistory run) (sym (append-nil before)) h
 history_of_all (request ∷ requests) run before h =
     subst (IsHistory (fold with_request run (request ∷ requests))) (append_assoc before (request ∷ []) requests)
-      (history_of_all requests (with_request run request) (before ++ request ∷ []) (IsHistory-push run before request h))
+    (history_of_all requests (with_request run request) (before ++ request ∷ []) (IsHistory-push run before request h))
 
 then_request : (run turn : Run) (request : Request) → run_then run (with_request turn request) ≡ with_request (run_then run turn) request
 then_request run turn request =
@@ -93,7 +93,7 @@ then_silent run = λ i. record { state = run.state; rows = append-nil run.rows i
 still : (run : Run) (before : List Request) (is_open : Bool) → IsHistory run before → IsHistory (run_then run (silent (record run.state { is_open = is_open }))) (before ++ [])
 still run before is_open h =
     subst (IsHistory (run_then run (silent (record run.state { is_open = is_open })))) (sym (append-nil before))
-      (record { values = h.values; rows = append-nil run.rows ∙ h.rows; log = append-nil run.log ∙ h.log })
+    (record { values = h.values; rows = append-nil run.rows ∙ h.rows; log = append-nil run.log ∙ h.log })
 
 of_piece : (run : Run) (before requests : List Request) (is_open : Bool) → IsHistory run before
     → IsHistory (run_then run (cond is_open (fold with_request (silent run.state) requests) (silent run.state))) (before ++ cond is_open requests [])
@@ -123,9 +123,9 @@ of_turns [] run before h = subst (IsHistory run) (sym (append-nil before)) h
 of_turns (arrival ∷ arrivals) run before h =
     let now = now_taken run.state.is_open arrival.turn.what arrival.requests in
     subst (IsHistory (fold with_turn run (arrival ∷ arrivals)))
-      (append_assoc before now (requests_taken (with_turn run arrival).state.is_open arrivals)
-        ∙ ap (λ o. before ++ (now ++ requests_taken o arrivals)) (open_then run.state arrival.turn.what arrival.requests))
-      (of_turns arrivals (with_turn run arrival) (before ++ now) (of_turn run before arrival.turn.what arrival.requests h))
+    (append_assoc before now (requests_taken (with_turn run arrival).state.is_open arrivals)
+    ∙ ap (λ o. before ++ (now ++ requests_taken o arrivals)) (open_then run.state arrival.turn.what arrival.requests))
+    (of_turns arrivals (with_turn run arrival) (before ++ now) (of_turn run before arrival.turn.what arrival.requests h))
 
 pub history : (arrivals : List Arrival) → IsHistory (run_of arrivals) (requests_taken false arrivals)
 history arrivals = of_turns arrivals (silent beginning) [] (record { values = λ key. map.get-empty bytes_cmp key; rows = refl; log = refl })

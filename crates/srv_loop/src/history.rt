@@ -8,5 +8,4 @@ ghost use Rattle.srv_loop.specs.History.{IsHistory, requests_taken};
 /// where it changes that value.
 pub fn answers_follow_history()
     ensures { (arrivals : List Arrival) → IsHistory (run_of arrivals) (requests_taken false arrivals) }
-{
-}
+{}
