@@ -2,6 +2,7 @@
 """Times `redscript play` over sessions of SET lines, and appends the figures to docs/PERFORMANCE.md.
 
 Run it at the top of the repository after `rt ci`, which leaves the program at crates/redscript/out/redscript.
+First it plays the example session and compares what the real files then hold, which no contract tells.
 Each session is played RUNS times into files in a new folder; the best time counts, as the others measure the machine.
 """
 import datetime
@@ -12,7 +13,9 @@ import time
 
 TOP = os.path.dirname(os.path.dirname(os.path.abspath(__file__)))
 PROGRAM = os.path.join(TOP, "crates", "redscript", "out", "redscript")
+EXAMPLE = os.path.join(TOP, "crates", "redscript")
 REPORT = os.path.join(TOP, "docs", "PERFORMANCE.md")
+LOGGED = b"*3\r\n$3\r\nSET\r\n$1\r\nk\r\n$1\r\nv\r\n"
 LINES = (100_000, 200_000)
 RUNS = 5
 
@@ -25,6 +28,25 @@ def session(lines):
         value = f"{i:0100}"
         yield (f"{1000 + i} {i} 1 piece *3\\r\\n$3\\r\\nSET\\r\\n${len(key)}\\r\\n{key}\\r\\n"
                f"${len(value)}\\r\\n{value}\\r\\n\n")
+
+
+def read(*path):
+    with open(os.path.join(*path), "rb") as file:
+        return file.read()
+
+
+def check_files(folder):
+    """The example is played into the files, a log that is there is left as it is, and a bad session makes none."""
+    log = os.path.join(folder, "example.log")
+    session_text = read(EXAMPLE, "stdin")
+    for text, status, out, logged in [(session_text + b"x\n", 3, b"", None),
+                                      (session_text, 0, read(EXAMPLE, "stdout"), LOGGED),
+                                      (session_text, 7, b"", LOGGED)]:
+        done = subprocess.run([PROGRAM, "play", log], input=text, stdout=subprocess.PIPE,
+                              stderr=subprocess.DEVNULL, check=False)
+        held = read(log) if os.path.exists(log) else None
+        if (done.returncode, done.stdout, held) != (status, out, logged):
+            raise SystemExit(f"not as wanted: status {done.returncode}, output {done.stdout}, log {held}")
 
 
 def play(folder, path, run):
@@ -46,6 +68,7 @@ def play(folder, path, run):
 def main():
     rows = []
     with tempfile.TemporaryDirectory() as folder:
+        check_files(folder)
         for lines in LINES:
             path = os.path.join(folder, f"session.{lines}")
             with open(path, "w", encoding="ascii") as file:
