@@ -1,5 +1,5 @@
 //! The real outside: standard input and output, and the log's file. They tell nothing of content, and count their faults.
-ghost use Rattle.std.specs.Prelude.{ℕ, ◌<◌, ◌≤◌, List, Option, None, IfOk};
+ghost use Rattle.std.specs.Prelude.{◌≡◌, ℕ, ◌<◌, ◌≤◌, List, Option, None, Ok, IfOk};
 ghost use Rattle.std.specs.Result.{ForOk};
 ghost use Rattle.rs_outside.specs.Faults.{StopsByFault};
 
@@ -125,6 +125,7 @@ fn judged(written: io::Result<usize>, len: usize, faults: &mut u64) -> Result<us
     requires { ForOk written (λ n. n ≤ len) }
     ensures count { IfOk result (λ n. n ≤ len) }
     ensures some { IfOk result (λ n. 0 < len → 0 < n) }
+    ensures same { IfOk result (λ n. written ≡ Ok n) }
     ensures later { faults.old ≤ faults.new }
     ensures cause { StopsByFault faults.old faults.new result }
 {

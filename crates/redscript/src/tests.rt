@@ -1,7 +1,11 @@
+ghost use Rattle.std.specs.Prelude.{None};
+
 use crate::command_line::{Lone, lone_word};
 use crate::running::run;
 use rs_base::{Bytes, NoMemory, Words};
-use rs_outside::{Status, SureLog, SureSink, SureSource, SureWire, Turns};
+use rs_outside::{
+    Failed, IoStop, Log, Sink, Source, Status, SureLog, SureSink, SureSource, SureWire, Turns,
+};
 use std::alloc::Global;
 use std::process::Abort;
 use std::test::Fail;
@@ -159,5 +163,86 @@ fn answers_lone_words(rt: HostRuntime) -> Result<(), Fail> {
     let mut words = Words::new(rt.alloc());
     words.push(Bytes::from_slice(rt.alloc(), b"--version")?)?;
     assert_eq!(rt; lone_word(&words), Some(Lone::Version));
+    Ok(())
+}
+
+// A source, a sink and a log that fail. The log begins where it says so.
+#[derive(Drop)]
+struct Broken {
+    begins: bool,
+    faults: u64,
+}
+
+impl Broken {
+    fn new(begins: bool) -> Broken {
+        Broken { begins, faults: 0 }
+    }
+}
+
+impl Source for Broken {
+    ghost left = { λ _. None };
+
+    ghost faults = { λ s. s.faults };
+
+    fn read(&mut self, _into: &mut [u8]) -> Result<usize, Failed> {
+        self.faults = self.faults.saturating_add(1);
+        Err(Failed)
+    }
+}
+
+impl Sink for Broken {
+    ghost taken = { λ _. None };
+
+    ghost faults = { λ s. s.faults };
+
+    fn write(&mut self, _piece: &[u8]) -> Result<usize, IoStop> {
+        self.faults = self.faults.saturating_add(1);
+        Err(IoStop::Failed)
+    }
+}
+
+impl Log for Broken {
+    fn begin(&mut self, _name: &[u8]) -> Result<(), IoStop> {
+        if self.begins {
+            return Ok(());
+        }
+        self.faults = self.faults.saturating_add(1);
+        Err(IoStop::Failed)
+    }
+}
+
+fn status_of<S: Source, O: Sink, L: Log>(
+    alloc: Global,
+    input: &mut S,
+    out: &mut O,
+    log: &mut L,
+) -> Result<Status, NoMemory> {
+    let mut line = Words::new(alloc);
+    line.push(Bytes::from_slice(alloc, b"play")?)?;
+    line.push(Bytes::from_slice(alloc, b"x.log")?)?;
+    let mut wire = SureWire::new(alloc, Turns::new(alloc));
+    Ok(run(alloc, &line, &mut wire, input, out, log))
+}
+
+#[test]
+fn names_what_failed(rt: HostRuntime) -> Result<(), Fail> {
+    let alloc = rt.alloc();
+    let mut out = SureSink::new(alloc);
+    let mut log = SureLog::new(alloc);
+    let status = status_of(alloc, &mut Broken::new(true), &mut out, &mut log)?;
+    assert_eq!(rt; status, Status::SourceFault);
+    assert!(rt; log.begun().is_empty());
+
+    let mut input = SureSource::new(Bytes::from_slice(alloc, SESSION)?);
+    let status = status_of(alloc, &mut input, &mut Broken::new(true), &mut log)?;
+    assert_eq!(rt; status, Status::SinkFault);
+    assert_eq!(rt; log.taken().len(), 27);
+
+    for begins in [false, true] {
+        let mut input = SureSource::new(Bytes::from_slice(alloc, SESSION)?);
+        let status = status_of(alloc, &mut input, &mut out, &mut Broken::new(begins))?;
+        assert_eq!(rt; status, Status::LogFault);
+        assert!(rt; out.taken().is_empty());
+    }
     Ok(())
 }
