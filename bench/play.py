@@ -1,8 +1,9 @@
 #!/usr/bin/env python3
-"""Times `redscript play` over sessions of SET lines, and appends the figures to docs/PERFORMANCE.md.
+"""Times `redscript play`, and appends the figures to docs/PERFORMANCE.md.
 
 Run it at the top of the repository after `rt ci`, which leaves the program at crates/redscript/out/redscript.
-First it plays the example session and compares what the real files then hold, which no contract tells.
+First it plays the example session and compares what the real files then hold, which no contract tells. Then it plays
+sessions of SET lines, bytes that come whole or one by one, and turns of one client or of a thousand.
 Each session is played RUNS times into files in a new folder; the best time counts, as the others measure the machine.
 """
 import datetime
@@ -16,18 +17,52 @@ PROGRAM = os.path.join(TOP, "crates", "redscript", "out", "redscript")
 EXAMPLE = os.path.join(TOP, "crates", "redscript")
 REPORT = os.path.join(TOP, "docs", "PERFORMANCE.md")
 LOGGED = b"*3\r\n$3\r\nSET\r\n$1\r\nk\r\n$1\r\nv\r\n"
-LINES = (100_000, 200_000)
 RUNS = 5
 
 
-def session(lines):
+def frame(*words):
+    """A command as a client sends it, in the escape of a session; the words need no escape."""
+    return f"*{len(words)}\\r\\n" + "".join(f"${len(word)}\\r\\n{word}\\r\\n" for word in words)
+
+
+def sets(lines):
     """Client 1 opens and sets `lines` keys to values of 100 bytes."""
     yield "1000 0 1 opened\n"
     for i in range(lines):
-        key = f"key:{i:06}"
-        value = f"{i:0100}"
-        yield (f"{1000 + i} {i} 1 piece *3\\r\\n$3\\r\\nSET\\r\\n${len(key)}\\r\\n{key}\\r\\n"
-               f"${len(value)}\\r\\n{value}\\r\\n\n")
+        yield f"{1000 + i} {i} 1 piece {frame('SET', f'key:{i:06}', f'{i:0100}')}\n"
+
+
+MEGABYTE = frame("SET", "k", "a" * 1000) * 970
+
+
+def one_by_one(client):
+    """The bytes of about one megabyte of SETs, each in a piece of its own."""
+    for byte in MEGABYTE.replace("\\r", "\r").replace("\\n", "\n"):
+        yield f"1000 0 {client} piece {byte}\n".replace("\r", "\\r").replace("\n\n", "\\n\n")
+
+
+def bytes_whole():
+    yield "1000 0 1 opened\n"
+    yield from (f"1000 0 1 piece {MEGABYTE}\n",)
+
+
+def bytes_apart():
+    yield "1000 0 1 opened\n"
+    yield from one_by_one(1)
+
+
+def bytes_unheard():
+    """As many lines and bytes as in `bytes_apart`, from a client that is not open; then the same bytes whole."""
+    yield from one_by_one(2)
+    yield from bytes_whole()
+
+
+def turns_of(clients):
+    """100,000 turns of so many clients by turns, each a SET of one of 1,000 keys."""
+    for client in range(clients):
+        yield f"1000 0 {client + 1} opened\n"
+    for i in range(100_000):
+        yield f"1000 0 {i % clients + 1} piece {frame('SET', f'k{i % 1000}', 'v')}\n"
 
 
 def read(*path):
@@ -65,29 +100,39 @@ def play(folder, path, run):
     return seconds, usage.ru_maxrss * 1024
 
 
+def measure(folder, lines):
+    """The size of a session, the best time over it and the greatest memory."""
+    path = os.path.join(folder, "session")
+    with open(path, "w", encoding="ascii") as file:
+        file.writelines(lines)
+    plays = [play(folder, path, run) for run in range(RUNS)]
+    return os.path.getsize(path), min(p[0] for p in plays), max(p[1] for p in plays)
+
+
+def table(head, rows):
+    text = [f"| {head} | session | best of {RUNS} | MB a second | peak memory | over session |\n", "|---|---|---|---|---|---|\n"]
+    for name, (size, seconds, memory) in rows:
+        text.append(f"| {name} | {size / 1e6:.1f} MB | {seconds:.3f} s | {size / 1e6 / seconds:.1f} | "
+                    f"{memory / 1e6:.1f} MB | {memory / size:.1f} |\n")
+    return "".join(text)
+
+
 def main():
-    rows = []
     with tempfile.TemporaryDirectory() as folder:
         check_files(folder)
-        for lines in LINES:
-            path = os.path.join(folder, f"session.{lines}")
-            with open(path, "w", encoding="ascii") as file:
-                file.writelines(session(lines))
-            size = os.path.getsize(path)
-            plays = [play(folder, path, run) for run in range(RUNS)]
-            seconds = min(p[0] for p in plays)
-            memory = max(p[1] for p in plays)
-            rows.append((lines, size, seconds, memory))
-    load = os.getloadavg()[0]
-    day = datetime.date.today().isoformat()
-    text = [f"\n### {day}, load {load:.1f} on {os.cpu_count()} processors\n\n",
-            "| SET lines | session | best of 5 | MB a second | peak memory | over session |\n",
-            "|---|---|---|---|---|---|\n"]
-    for lines, size, seconds, memory in rows:
-        text.append(f"| {lines:,} | {size / 1e6:.1f} MB | {seconds:.3f} s | {size / 1e6 / seconds:.1f} | "
-                    f"{memory / 1e6:.1f} MB | {memory / size:.1f} |\n")
-    text.append(f"\nTwice the session took {rows[1][2] / rows[0][2]:.2f} times as long.\n")
-    report = "".join(text)
+        lines = [(f"{n:,}", measure(folder, sets(n))) for n in (100_000, 200_000)]
+        pieces = [("in one piece", measure(folder, bytes_whole())),
+                  ("in single bytes", measure(folder, bytes_apart())),
+                  ("in single bytes unheard, then in one piece", measure(folder, bytes_unheard()))]
+        clients = [(f"{n:,}", measure(folder, turns_of(n))) for n in (1, 1_000)]
+    report = (f"\n### {datetime.date.today().isoformat()}, load {os.getloadavg()[0]:.1f} on {os.cpu_count()} processors\n\n"
+              + table("SET lines", lines)
+              + f"\nTwice the session took {lines[1][1][1] / lines[0][1][1]:.2f} times as long.\n\n"
+              + table("1 MB of SETs", pieces)
+              + f"\nReading byte by byte took {pieces[1][1][1] / pieces[2][1][1]:.2f} times as long as reading the same bytes whole "
+              "beside the same lines unheard.\n\n"
+              + table("clients", clients)
+              + f"\nA turn of a thousand clients took {clients[1][1][1] / clients[0][1][1]:.2f} times as long as one of one client.\n")
     print(report)
     with open(REPORT, "a", encoding="utf-8") as file:
         file.write(report)

@@ -3,7 +3,7 @@ use Rattle.std.proofs.Common.{◌≡◌, ℕ, ◌+◌, ◌<◌, ◌≤◌, List,
 use Rattle.rs_outside.specs.Known.{items_then, NoneLeft}
 use Rattle.redscript.specs.declared.reading.TheConstants.{MAX_INPUT_BYTES}
 use Rattle.rs_outside.specs.declared.status.Status.{Status}
-use Rattle.rs_outside.specs.declared.status.Status.TheVariants.{Done, Usage, BadInput, SourceFault, SinkFault, LogFault, NoMemory, InputTooLong}
+use Rattle.rs_outside.specs.declared.status.Status.TheVariants.{Done, Usage, BadInput, SourceFault, SinkFault, LogFault, WireFault, TurnsSpent, NoMemory, InputTooLong}
 use Rattle.redscript.specs.Input.{HasReadAll, PassesLimit, StopsReading, StopsPiece}
 
 pub items_then-items_then : (xs ys : List ℕ) (known : Option (List ℕ)) → items_then xs (items_then ys known) ≡ items_then (xs ++ ys) known
@@ -37,5 +37,7 @@ StopsReading-from_piece input input' rose rose' (BadInput line) weaker h = h
 StopsReading-from_piece input input' rose rose' SourceFault weaker h = weaker h
 StopsReading-from_piece input input' rose rose' SinkFault weaker h = h
 StopsReading-from_piece input input' rose rose' LogFault weaker h = h
+StopsReading-from_piece input input' rose rose' WireFault weaker h = h
+StopsReading-from_piece input input' rose rose' (TurnsSpent turns) weaker h = h
 StopsReading-from_piece input input' rose rose' NoMemory weaker h = h
 StopsReading-from_piece input input' rose rose' (InputTooLong bytes) weaker h = absurd h

@@ -1,7 +1,7 @@
 -- Statuses, and the words of a command line.
 use Rattle.std.proofs.Common.{◌≡◌, ℕ, suc, ◌<◌, ◌≤◌, List, [], ◌∷◌, length, get_or, refl, sym, ap, ◌∙◌, arith}
 use Rattle.rs_outside.specs.declared.status.Status.{Status}
-use Rattle.rs_outside.specs.declared.status.Status.TheVariants.{Done, Usage, BadInput, SourceFault, SinkFault, LogFault, NoMemory, InputTooLong}
+use Rattle.rs_outside.specs.declared.status.Status.TheVariants.{Done, Usage, BadInput, SourceFault, SinkFault, LogFault, WireFault, TurnsSpent, NoMemory, InputTooLong}
 use Rattle.srv_loop.specs.Play.{IsPlayStatus}
 use Rattle.redscript.specs.Run.{IsRefusal}
 
@@ -13,6 +13,8 @@ refused_line (BadInput line) refusal played = (line, refl)
 refused_line SourceFault refusal played = absurd played
 refused_line SinkFault refusal played = absurd refusal
 refused_line LogFault refusal played = absurd refusal
+refused_line WireFault refusal played = absurd refusal
+refused_line (TurnsSpent turns) refusal played = absurd refusal
 refused_line NoMemory refusal played = absurd refusal
 refused_line (InputTooLong bytes) refusal played = absurd played
 

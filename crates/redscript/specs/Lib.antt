@@ -1,5 +1,6 @@
 pub use Rattle.srv_loop.specs.Session
-pub use Rattle.srv_loop.specs.Machine
+pub use Rattle.cl_core.specs.Machine
+pub use Rattle.srv_loop.specs.Runs
 pub use Rattle.srv_loop.specs.Transcript
 pub use Rattle.srv_loop.specs.Play
 pub use Rattle.rs_outside.specs.Faults

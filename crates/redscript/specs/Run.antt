@@ -2,7 +2,7 @@
 use Rattle.std.specs.Prelude.{◌≡◌, ◌⊎◌, ℕ, ◌<◌, List, [], ◌∷◌, length, Option, codes}
 use Rattle.rs_outside.specs.declared.status.Status.{Status}
 use Rattle.rs_outside.specs.declared.status.Status.TheVariants.{Usage, BadInput, SourceFault, InputTooLong}
-use Rattle.srv_loop.specs.declared.arrival.Arrival.{Arrival}
+use Rattle.rs_outside.specs.declared.turn.Turn.{Turn}
 use Rattle.srv_loop.specs.Session.{IsSession, IsBadLine}
 use Rattle.srv_loop.specs.Play.{Plays, StopsAnywhere}
 use Rattle.redscript.specs.Input.{HasReadAll}
@@ -19,9 +19,9 @@ pub record PlaysToEnd (words : List (List ℕ)) (input input' : Option (List ℕ
   pub form : IsPlay words name
   pub text : List ℕ
   pub read : HasReadAll input input' text
-  pub arrivals : List Arrival
-  pub session : IsSession text arrivals
-  pub plays : Plays name arrivals names names' log log' out out'
+  pub turns : List Turn
+  pub session : IsSession text turns
+  pub plays : Plays name turns names names' log log' out out'
 
 -- the input was read to its end, and this is its first bad line
 pub record FindsBad (input input' : Option (List ℕ)) (line : ℕ) : Type 0 where

@@ -1,7 +1,7 @@
 ghost use Rattle.std.specs.Prelude.{◌≡◌, ◌⊎◌, ◌↔◌, ◌<◌, ◌≤◌, ℕ, List, ◌∷◌, [], length, Some, IfSome, IsSomeAnd};
 ghost use Rattle.rs_outside.specs.Faults.{Rose};
 ghost use Rattle.rs_outside.specs.declared.status.Status.{Status};
-ghost use Rattle.srv_loop.specs.declared.arrival.Arrival.{Arrival};
+ghost use Rattle.rs_outside.specs.declared.turn.Turn.{Turn};
 ghost use Rattle.srv_loop.specs.Session.{IsSession, IsBadLine};
 ghost use Rattle.redscript.specs.declared.reading.TheConstants.{MAX_INPUT_BYTES};
 ghost use Rattle.redscript.specs.Run.{IsPlay, PlaysToEnd, FindsBad, PassesLimit, IsRefusal, StopsRun};
@@ -42,10 +42,13 @@ pub fn run<W: Wire, S: Source, O: Sink, L: Log>(
     ensures source_fault { result ≡ Status.SourceFault → Rose (S.faults input.old) (S.faults input.new) }
     ensures sink_fault { result ≡ Status.SinkFault → Rose (O.faults out.old) (O.faults out.new) }
     ensures log_fault { result ≡ Status.LogFault → Rose (L.faults log.old) (L.faults log.new) }
+    ensures source_later { S.faults input.old ≤ S.faults input.new }
+    ensures sink_later { O.faults out.old ≤ O.faults out.new }
+    ensures log_later { L.faults log.old ≤ L.faults log.new }
 
     // What an input that is told gets: a session is played, a bad line is found, and the limit is kept.
-    ensures plays_session { (text name : List ℕ) (arrivals : List Arrival) → S.left input.old ≡ Some text → IsPlay words.now name
-        → length text ≤ MAX_INPUT_BYTES → IsSession text arrivals
+    ensures plays_session { (text name : List ℕ) (turns : List Turn) → S.left input.old ≡ Some text → IsPlay words.now name
+        → length text ≤ MAX_INPUT_BYTES → IsSession text turns
         → (result ≡ Status.Done) ⊎ (result ≡ Status.NoMemory) ⊎ Rose (S.faults input.old) (S.faults input.new)
         ⊎ Rose (O.faults out.old) (O.faults out.new) ⊎ Rose (L.faults log.old) (L.faults log.new) }
     ensures finds_bad { (text name : List ℕ) (line : ℕ) → S.left input.old ≡ Some text → IsPlay words.now name

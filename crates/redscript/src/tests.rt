@@ -2,7 +2,7 @@ ghost use Rattle.std.specs.Prelude.{None};
 
 use crate::command_line::{Lone, lone_word};
 use crate::running::run;
-use rs_base::{Bytes, NoMemory, Words};
+use rs_base::{Bytes, NoMemory, Words, escape};
 use rs_outside::{
     Failed, IoStop, Log, Sink, Source, Status, SureLog, SureSink, SureSource, SureWire, Turns,
 };
@@ -89,6 +89,91 @@ fn plays_sessions(rt: HostRuntime) -> Result<(), Fail> {
     )
 }
 
+// The frames of SET k v and GET k, as a client sends them.
+const SET_AND_GET: &[u8] =
+    b"*3\r\n$3\r\nSET\r\n$1\r\nk\r\n$1\r\nv\r\n*2\r\n$3\r\nGET\r\n$1\r\nk\r\n";
+
+const LOGGED: &[u8] = b"*3\r\n$3\r\nSET\r\n$1\r\nk\r\n$1\r\nv\r\n";
+
+fn add_piece(session: &mut Bytes, client: &[u8], piece: &[u8]) -> Result<(), NoMemory> {
+    session.append(b"1000 0 ")?;
+    session.append(client)?;
+    session.append(b" piece ")?;
+    escape(piece, session)?;
+    session.append(b"\n")
+}
+
+#[test]
+fn plays_bytes_one_by_one(rt: HostRuntime) -> Result<(), Fail> {
+    let mut session = Bytes::from_slice(rt.alloc(), b"1000 0 1 opened\n")?;
+    for at in 0..SET_AND_GET.len() {
+        let (front, _) = SET_AND_GET.split_at(at + 1);
+        let (_, byte) = front.split_at(at);
+        add_piece(&mut session, b"1", byte)?;
+    }
+    plays(
+        &rt,
+        rt.alloc(),
+        session.as_slice(),
+        b"1 send +OK\\r\\n\n1 send $1\\r\\nv\\r\\n\nend turns=48 keys=1 log=27\nk string - v\n",
+        LOGGED,
+    )
+}
+
+#[test]
+fn plays_any_cutting(rt: HostRuntime) -> Result<(), Fail> {
+    for at in 0..SET_AND_GET.len() {
+        let (front, back) = SET_AND_GET.split_at(at);
+        let mut session = Bytes::from_slice(rt.alloc(), b"1000 0 1 opened\n")?;
+        add_piece(&mut session, b"1", front)?;
+        add_piece(&mut session, b"1", back)?;
+        plays(
+            &rt,
+            rt.alloc(),
+            session.as_slice(),
+            b"1 send +OK\\r\\n\n1 send $1\\r\\nv\\r\\n\nend turns=3 keys=1 log=27\nk string - v\n",
+            LOGGED,
+        )?;
+    }
+    Ok(())
+}
+
+#[test]
+fn plays_many_clients(rt: HostRuntime) -> Result<(), Fail> {
+    // Commands are taken in the order in which they become whole, not in that of their first bytes.
+    plays(
+        &rt,
+        rt.alloc(),
+        b"1000 0 1 opened\n1000 0 2 opened\n1000 0 1 piece *3\\r\\n$3\\r\\nSET\\r\\n$1\\r\\nk\\r\\n$3\\r\\non\n1000 0 2 piece *3\\r\\n$3\\r\\nSET\\r\\n$1\\r\\nk\\r\\n$3\\r\\ntw\n1000 0 2 piece o\\r\\n\n1000 0 1 piece e\\r\\n\n",
+        b"2 send +OK\\r\\n\n1 send +OK\\r\\n\nend turns=6 keys=1 log=58\nk string - one\n",
+        b"*3\r\n$3\r\nSET\r\n$1\r\nk\r\n$3\r\ntwo\r\n*3\r\n$3\r\nSET\r\n$1\r\nk\r\n$3\r\none\r\n",
+    )?;
+    // Empty and negative arrays get no reply; a bad frame gets its fault, and the client is shut.
+    plays(
+        &rt,
+        rt.alloc(),
+        b"1000 0 1 opened\n1000 0 1 piece *0\\r\\n*-1\\r\\n*1\\r\\n$-1\\r\\n\n1000 0 1 piece *1\\r\\n$4\\r\\nPING\\r\\n\n",
+        b"1 send -ERR\\sProtocol\\serror:\\sinvalid\\sbulk\\slength\\r\\n\n1 shut\nend turns=3 keys=0 log=0\n",
+        b"",
+    )?;
+    // Three keys, two of which are there: one group of two records.
+    plays(
+        &rt,
+        rt.alloc(),
+        b"1 0 1 opened\n1 0 1 piece *3\\r\\n$3\\r\\nSET\\r\\n$1\\r\\na\\r\\n$1\\r\\n1\\r\\n*3\\r\\n$3\\r\\nSET\\r\\n$1\\r\\nb\\r\\n$1\\r\\n2\\r\\n*4\\r\\n$3\\r\\nDEL\\r\\n$1\\r\\na\\r\\n$1\\r\\nc\\r\\n$1\\r\\nb\\r\\n\n",
+        b"1 send +OK\\r\\n\n1 send +OK\\r\\n\n1 send :2\\r\\n\nend turns=2 keys=0 log=123\n",
+        b"*3\r\n$3\r\nSET\r\n$1\r\na\r\n$1\r\n1\r\n*3\r\n$3\r\nSET\r\n$1\r\nb\r\n$1\r\n2\r\n*1\r\n$5\r\nMULTI\r\n*2\r\n$3\r\nDEL\r\n$1\r\na\r\n*2\r\n$3\r\nDEL\r\n$1\r\nb\r\n*1\r\n$4\r\nEXEC\r\n",
+    )?;
+    // Nothing is answered behind a QUIT, and a client that is not open is not heard.
+    plays(
+        &rt,
+        rt.alloc(),
+        b"1 0 7 piece *1\\r\\n$4\\r\\nPING\\r\\n\n1 0 7 opened\n1 0 7 piece *1\\r\\n$4\\r\\nPING\\r\\n*1\\r\\n$4\\r\\nquit\\r\\n*1\\r\\n$4\\r\\nPING\\r\\n!\n1 0 7 piece *1\\r\\n$4\\r\\nPING\\r\\n\n2 0 0 idle\n",
+        b"7 send +PONG\\r\\n\n7 send +OK\\r\\n\n7 shut\nend turns=5 keys=0 log=0\n",
+        b"",
+    )
+}
+
 #[test]
 fn refuses_sessions(rt: HostRuntime) -> Result<(), Fail> {
     let words = [b"play".as_slice(), b"x.log".as_slice()];
@@ -104,7 +189,7 @@ fn refuses_sessions(rt: HostRuntime) -> Result<(), Fail> {
         &rt,
         rt.alloc(),
         &words,
-        b"1000 0 1 opened\n1001 0 2 opened\n",
+        b"1000 0 1 opened\n1001 0 2 idle\n",
         bad_second,
     )?;
     refuses(

@@ -1,3 +1,12 @@
-pub mod CommandsRead
+pub mod BadBytes
+pub mod Cases
+pub mod Continuing
 pub mod EachOf
-pub mod WordsRead
+pub mod Feeding
+pub mod GrammarLaws
+pub mod Meaning
+pub mod OneKind
+pub mod Reached
+pub mod Rows
+pub mod Standing
+pub mod Steps

@@ -2,7 +2,16 @@
 #![tactic(auto)]
 
 mod command;
-mod rows;
+mod cursor;
+mod laws;
+mod parser;
+mod phase;
+mod reader;
+mod stops;
+#[cfg(test)]
+mod tests;
 
 pub use command::{Command, Commands, MAX_COMMAND_BYTES, MAX_WORD_BYTES, MAX_WORDS};
-pub use rows::whole_row;
+pub use laws::reading_is_the_grammar;
+pub use reader::Reader;
+pub use stops::{BadFrame, FeedStop};

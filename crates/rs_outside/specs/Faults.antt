@@ -1,5 +1,5 @@
 -- Counts of faults. A count is a `u64` that never falls, and stands still at its last value.
-use Rattle.std.specs.Prelude.{◌≡◌, ℕ, ◌+◌, ◌-◌, ◌^◌, ◌≤◌, min, Result, IfErr, OnErr, IsErrOf}
+use Rattle.std.specs.Prelude.{ℕ, ◌+◌, ◌-◌, ◌^◌, ◌≤◌, min, Result, IsErrOf}
 use Rattle.rs_outside.specs.declared.stops.IoStop.{IoStop}
 use Rattle.rs_outside.specs.declared.stops.IoStop.TheVariants.{Failed}
 

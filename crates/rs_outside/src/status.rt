@@ -4,7 +4,7 @@ use std::fmt;
 /// How a run of the program ended.
 #[derive(Clone, Copy, Debug, PartialEq, Eq)]
 pub enum Status {
-    /// All of the input was read and all output written.
+    /// All of the input was read and all output written, or the wire gave no more turn.
     Done,
     /// The words are no command line of the program. Nothing was read or written.
     Usage,
@@ -16,6 +16,10 @@ pub enum Status {
     SinkFault,
     /// The log failed.
     LogFault,
+    /// The wire failed.
+    WireFault,
+    /// This number of turns, the most that the server was to take, was taken.
+    TurnsSpent { turns: u64 },
     /// Memory ran out.
     NoMemory,
     /// The input has more than this number of bytes, the limit. Nothing was written.
@@ -48,6 +52,8 @@ impl Status {
             Status::SourceFault => 5,
             Status::SinkFault => 6,
             Status::LogFault => 7,
+            Status::WireFault => 8,
+            Status::TurnsSpent { .. } => 9,
             Status::NoMemory => 10,
             Status::InputTooLong { .. } => 12,
         }
@@ -63,6 +69,8 @@ impl fmt::Display for Status {
             Status::SourceFault => write!(f, "source fault"),
             Status::SinkFault => write!(f, "sink fault"),
             Status::LogFault => write!(f, "log fault"),
+            Status::WireFault => write!(f, "wire fault"),
+            Status::TurnsSpent { turns } => write!(f, "turns spent: {turns}"),
             Status::NoMemory => write!(f, "out of memory"),
             Status::InputTooLong { bytes } => write!(f, "input too long: {bytes}"),
         }

@@ -159,6 +159,8 @@ fn statuses_have_codes_and_texts(rt: HostRuntime) -> Result<(), Fail> {
         (Status::SourceFault, 5, "source fault"),
         (Status::SinkFault, 6, "sink fault"),
         (Status::LogFault, 7, "log fault"),
+        (Status::WireFault, 8, "wire fault"),
+        (Status::TurnsSpent { turns: 3 }, 9, "turns spent: 3"),
         (Status::NoMemory, 10, "out of memory"),
         (
             Status::InputTooLong { bytes: 268_435_456 },

@@ -7,7 +7,7 @@ pub struct Turn {
     pub clock: u64,
     /// A random word, from which the turn's draws are made.
     pub word: u64,
-    /// The client's number; 0 where there is none.
+    /// The client's number; 0 in a turn of no client.
     pub client: u32,
     pub what: What,
 }
@@ -19,10 +19,23 @@ pub enum What {
     Opened,
     /// It sent these bytes.
     Piece(Bytes),
+    /// Its connection ended, by its own wish or by a fault of the connection.
+    Closed,
+    /// No client did anything: the time alone went on.
+    Idle,
 }
 
 /// Turns in order.
 pub type Turns = Seq<Turn>;
+
+/// What a turn leaves the server to do.
+#[derive(Clone, Copy, Debug, PartialEq, Eq)]
+pub enum Go {
+    /// It takes the next turn.
+    On,
+    /// It ends, since a client asked it to.
+    Shutdown,
+}
 
 /// What the server gives to a client.
 #[derive(Debug, Drop, PartialEq, Eq)]

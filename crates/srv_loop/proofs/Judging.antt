@@ -1,23 +1,23 @@
 -- A session that is judged line by line.
-use Rattle.std.proofs.Common.{◌≡◌, ℕ, ◌+◌, ◌<◌, ◌≤◌, List, [], ◌∷◌, ◌++◌, length, refl, sym, ap, ◌∙◌, arith, append_assoc, append-nil, length-append, decimal}
+use Rattle.std.proofs.Common.{◌≡◌, ℕ, ◌+◌, ◌<◌, ◌≤◌, List, [], ◌∷◌, ◌++◌, length, refl, sym, ap, ◌∙◌, arith, append_assoc, append-nil, length-append}
 use Rattle.std.specs.List.{AllByRecursion}
 use Rattle.std.proofs.lemmas.Grind.{flat_map-append}
-use Rattle.srv_loop.specs.declared.arrival.Arrival.{Arrival}
-use Rattle.srv_loop.specs.Session.{IsArrival, IsSession, IsBadLine, arrival_line, what_text, session_text}
+use Rattle.rs_outside.specs.declared.turn.Turn.{Turn}
+use Rattle.srv_loop.specs.Session.{IsTurn, IsSession, IsBadLine, turn_line, head_text, what_text, session_text}
 
 -- no session line stands at the front
 abbrev pub BeginsNone : List ℕ → Type 0
-BeginsNone text = (arrival : Arrival) (more : List ℕ) → IsArrival arrival → text ≡ arrival_line arrival ++ more → ⊥
+BeginsNone text = (turn : Turn) (more : List ℕ) → IsTurn turn → text ≡ turn_line turn ++ more → ⊥
 
 -- the lines before this one are session lines, and what is left is all that the other lines of any reading make
 pub record IsRead (text rest : List ℕ) (line : ℕ) : Type 0 where
-  before : List Arrival
-  each : AllByRecursion IsArrival before
+  before : List Turn
+  each : AllByRecursion IsTurn before
   text_is : text ≡ session_text before ++ rest
   line_is : line ≡ length before + 1
   pub short : line + length rest ≤ length text + 1
-  only : (all : List Arrival) (tail : List ℕ) → AllByRecursion IsArrival all → BeginsNone tail → text ≡ session_text all ++ tail
-      → (left : List Arrival) × AllByRecursion IsArrival left × (all ≡ before ++ left) × (rest ≡ session_text left ++ tail)
+  only : (all : List Turn) (tail : List ℕ) → AllByRecursion IsTurn all → BeginsNone tail → text ≡ session_text all ++ tail
+      → (left : List Turn) × AllByRecursion IsTurn left × (all ≡ before ++ left) × (rest ≡ session_text left ++ tail)
 
 pub IsRead-start : (text : List ℕ) → IsRead text text 1
 IsRead-start text = record {
@@ -32,49 +32,49 @@ IsRead-start text = record {
 line_long : (front back : List ℕ) (b : ℕ) → 0 < length (front ++ b ∷ back)
 line_long front back b = omega (arith, length-append front (b ∷ back))
 
-some_bytes : (arrival : Arrival) → 0 < length (arrival_line arrival)
-some_bytes arrival = line_long (decimal arrival.turn.clock ++ 32 ∷ decimal arrival.turn.word ++ 32 ∷ decimal arrival.turn.client ++ 32 ∷ what_text arrival.turn.what) [] 10
+some_bytes : (turn : Turn) → 0 < length (turn_line turn)
+some_bytes turn = line_long (head_text turn.clock turn.word turn.client ++ what_text turn.what) [] 10
 
-one_more : (before : List Arrival) (arrival : Arrival) → AllByRecursion IsArrival before → IsArrival arrival → AllByRecursion IsArrival (before ++ arrival ∷ [])
-one_more [] arrival each is = (is, tt)
-one_more (first ∷ before) arrival each is = (each.0, one_more before arrival each.1 is)
+one_more : (before : List Turn) (turn : Turn) → AllByRecursion IsTurn before → IsTurn turn → AllByRecursion IsTurn (before ++ turn ∷ [])
+one_more [] turn each is = (is, tt)
+one_more (first ∷ before) turn each is = (each.0, one_more before turn each.1 is)
 
-pushed : (before : List Arrival) (arrival : Arrival) (more : List ℕ) → session_text before ++ (arrival_line arrival ++ more) ≡ session_text (before ++ arrival ∷ []) ++ more
-pushed before arrival more =
-    sym (append_assoc (session_text before) (arrival_line arrival) more)
-    ∙ ap (λ t. t ++ more) (ap (λ t. session_text before ++ t) (sym (append-nil (arrival_line arrival))) ∙ sym (flat_map-append arrival_line before (arrival ∷ [])))
+pushed : (before : List Turn) (turn : Turn) (more : List ℕ) → session_text before ++ (turn_line turn ++ more) ≡ session_text (before ++ turn ∷ []) ++ more
+pushed before turn more =
+    sym (append_assoc (session_text before) (turn_line turn) more)
+    ∙ ap (λ t. t ++ more) (ap (λ t. session_text before ++ t) (sym (append-nil (turn_line turn))) ∙ sym (flat_map-append turn_line before (turn ∷ [])))
 
 -- one line more
-pub IsRead-more : (text rest more : List ℕ) (line : ℕ) (arrival : Arrival) → IsRead text rest line → IsArrival arrival → rest ≡ arrival_line arrival ++ more
-    → ((other : Arrival) (after : List ℕ) → IsArrival other → rest ≡ arrival_line other ++ after → (arrival ≡ other) × (more ≡ after)) → IsRead text more (line + 1)
-IsRead-more text rest more line arrival h is rest_is alone =
-    let some = some_bytes arrival in
+pub IsRead-more : (text rest more : List ℕ) (line : ℕ) (turn : Turn) → IsRead text rest line → IsTurn turn → rest ≡ turn_line turn ++ more
+    → ((other : Turn) (after : List ℕ) → IsTurn other → rest ≡ turn_line other ++ after → (turn ≡ other) × (more ≡ after)) → IsRead text more (line + 1)
+IsRead-more text rest more line turn h is rest_is alone =
+    let some = some_bytes turn in
     let long = ap length rest_is in
     let count_line = h.line_is in
     let below = h.short in
     record {
-      before = h.before ++ arrival ∷ [];
-      each = one_more h.before arrival h.each is;
-      text_is = h.text_is ∙ ap (λ t. session_text h.before ++ t) rest_is ∙ pushed h.before arrival more;
-      line_is = omega (arith, length-append h.before (arrival ∷ []));
-      short = omega (arith, length-append (arrival_line arrival) more);
+      before = h.before ++ turn ∷ [];
+      each = one_more h.before turn h.each is;
+      text_is = h.text_is ∙ ap (λ t. session_text h.before ++ t) rest_is ∙ pushed h.before turn more;
+      line_is = omega (arith, length-append h.before (turn ∷ []));
+      short = omega (arith, length-append (turn_line turn) more);
       only = λ all tail each none e. let left = h.only all tail each none e in taken all tail none left.0 left.1 left.2 left.3;
     }
   where
-    taken : (all : List Arrival) (tail : List ℕ) → BeginsNone tail → (left : List Arrival) → AllByRecursion IsArrival left → all ≡ h.before ++ left → rest ≡ session_text left ++ tail
-        → (others : List Arrival) × AllByRecursion IsArrival others × (all ≡ (h.before ++ arrival ∷ []) ++ others) × (more ≡ session_text others ++ tail)
-    taken all tail none [] each all_is e = absurd (none arrival more is (sym e ∙ rest_is))
+    taken : (all : List Turn) (tail : List ℕ) → BeginsNone tail → (left : List Turn) → AllByRecursion IsTurn left → all ≡ h.before ++ left → rest ≡ session_text left ++ tail
+        → (others : List Turn) × AllByRecursion IsTurn others × (all ≡ (h.before ++ turn ∷ []) ++ others) × (more ≡ session_text others ++ tail)
+    taken all tail none [] each all_is e = absurd (none turn more is (sym e ∙ rest_is))
     taken all tail none (other ∷ others) each all_is e =
-        let same = alone other (session_text others ++ tail) each.0 (e ∙ append_assoc (arrival_line other) (session_text others) tail) in
-        (others, each.1, all_is ∙ ap (λ a. h.before ++ a ∷ others) (sym same.0) ∙ sym (append_assoc h.before (arrival ∷ []) others), same.1)
+        let same = alone other (session_text others ++ tail) each.0 (e ∙ append_assoc (turn_line other) (session_text others) tail) in
+        (others, each.1, all_is ∙ ap (λ a. h.before ++ a ∷ others) (sym same.0) ∙ sym (append_assoc h.before (turn ∷ []) others), same.1)
 
 -- where no line begins, no other reading goes on
-left_none : (rest tail : List ℕ) (left : List Arrival) → BeginsNone rest → AllByRecursion IsArrival left → rest ≡ session_text left ++ tail → left ≡ []
+left_none : (rest tail : List ℕ) (left : List Turn) → BeginsNone rest → AllByRecursion IsTurn left → rest ≡ session_text left ++ tail → left ≡ []
 left_none rest tail [] none each e = refl
-left_none rest tail (other ∷ others) none each e = absurd (none other (session_text others ++ tail) each.0 (e ∙ append_assoc (arrival_line other) (session_text others) tail))
+left_none rest tail (other ∷ others) none each e = absurd (none other (session_text others ++ tail) each.0 (e ∙ append_assoc (turn_line other) (session_text others) tail))
 
 empty_begins : BeginsNone []
-empty_begins arrival more is e = let some = some_bytes arrival in let long = ap length e in omega (arith, length-append (arrival_line arrival) more)
+empty_begins turn more is e = let some = some_bytes turn in let long = ap length e in omega (arith, length-append (turn_line turn) more)
 
 pub IsRead-bad : (text rest : List ℕ) (line : ℕ) → IsRead text rest line → 0 < length rest → BeginsNone rest → IsBadLine text line
 IsRead-bad text rest line h some none = record { before = h.before; each = h.each; rest = rest; text_is = h.text_is; some = some; bad = none; line_is = h.line_is }
@@ -87,15 +87,15 @@ IsRead-same_line text rest line h none other bad =
     let same : bad.before ≡ h.before = left.2 ∙ ap (λ t. h.before ++ t) ended ∙ append-nil h.before in
     h.line_is ∙ ap (λ t. length t + 1) (sym same) ∙ sym bad.line_is
 
-pub IsRead-no_session : (text rest : List ℕ) (line : ℕ) → IsRead text rest line → 0 < length rest → BeginsNone rest → (arrivals : List Arrival) → IsSession text arrivals → ⊥
-IsRead-no_session text rest line h some none arrivals is =
-    let left = h.only arrivals [] is.each empty_begins (is.text_is ∙ sym (append-nil (session_text arrivals))) in
+pub IsRead-no_session : (text rest : List ℕ) (line : ℕ) → IsRead text rest line → 0 < length rest → BeginsNone rest → (turns : List Turn) → IsSession text turns → ⊥
+IsRead-no_session text rest line h some none turns is =
+    let left = h.only turns [] is.each empty_begins (is.text_is ∙ sym (append-nil (session_text turns))) in
     let ended = left_none rest [] left.0 none left.1 left.3 in
     let empty : rest ≡ [] = left.3 ∙ ap (λ t. session_text t ++ []) ended in
     let long = ap length empty in omega arith
 
 -- a text that was read to its end is a session, and has no bad line
-pub IsRead-session : (text rest : List ℕ) (line : ℕ) → IsRead text rest line → rest ≡ [] → (arrivals : List Arrival) × IsSession text arrivals
+pub IsRead-session : (text rest : List ℕ) (line : ℕ) → IsRead text rest line → rest ≡ [] → (turns : List Turn) × IsSession text turns
 IsRead-session text rest line h end = (
   h.before,
   record { each = h.each; text_is = h.text_is ∙ ap (λ t. session_text h.before ++ t) end ∙ append-nil (session_text h.before) },

@@ -1,8 +1,7 @@
-pub mod Asking
 pub mod Cuts
-pub mod HistoryLaws
 pub mod Judging
 pub mod Lines
 pub mod PlayLaws
-pub mod StoreLaws
+pub mod RunLaws
+pub mod ServeLaws
 pub mod Writes

@@ -7,9 +7,8 @@ use Rattle.rs_base.specs.Escape.{is_plain, hex_digit, spelling_of_byte, spelling
 use Rattle.rs_outside.specs.declared.turn.Turn.{Turn}
 use Rattle.rs_outside.specs.declared.turn.What.{What}
 use Rattle.rs_outside.specs.declared.turn.What.TheVariants.{Opened, Piece}
-use Rattle.srv_loop.specs.declared.request.Request.{Request}
-use Rattle.srv_loop.specs.declared.arrival.Arrival.{Arrival}
-use Rattle.srv_loop.specs.Session.{IsPiece, Brings, turn_line, what_text, head_text}
+use Rattle.srv_loop.specs.declared.session.Head.{Head}
+use Rattle.srv_loop.specs.Session.{turn_line, what_text, head_text}
 
 abbrev pub NoLf : List ℕ → Type 0
 NoLf text = AllByRecursion (λ b. b ≢ 10) text
@@ -46,33 +45,20 @@ pub no_lf_spelling : (bytes : List ℕ) → NoLf (spelling bytes)
 no_lf_spelling [] = ((λ e. omega arith), ((λ e. omega arith), tt))
 no_lf_spelling (b ∷ bytes) = no_lf_bytes (b ∷ bytes)
 
--- a piece, and the text behind its first word
-pub record SaysPiece (text : List ℕ) (what : What) (requests : List Request) (rest : List ℕ) : Type 0 where
-  pub bytes : List ℕ
-  pub what_is : Piece bytes ≡ what
-  pub piece : IsPiece bytes requests
-  pub text_is : text ≡ codes "piece " ++ (spelling bytes ++ 10 ∷ rest)
+regroup_line : (head what more : List ℕ) → ((head ++ what) ++ 10 ∷ []) ++ more ≡ head ++ (what ++ 10 ∷ more)
+regroup_line head what more = simp append_assoc
 
-pub says_piece : (text : List ℕ) → ((rest : List ℕ) → text ≡ codes "opened\n" ++ rest → ⊥) → (what : What) (requests : List Request) (rest : List ℕ) → Brings what requests
-    → text ≡ what_text what ++ 10 ∷ rest → SaysPiece text what requests rest
-says_piece text other Opened requests rest brings e = absurd (other rest e)
-says_piece text other (Piece bytes) requests rest brings e =
-    record { bytes = bytes; what_is = refl; piece = brings; text_is = e ∙ append_assoc (codes "piece ") (spelling bytes) (10 ∷ rest) }
+-- a line is its head, what the client did, and LF
+pub line_is : (turn : Turn) (more : List ℕ) → turn_line turn ++ more ≡ head_text turn.clock turn.word turn.client ++ (what_text turn.what ++ 10 ∷ more)
+line_is turn more = regroup_line (head_text turn.clock turn.word turn.client) (what_text turn.what) more
 
-regroup : (a b w e more : List ℕ) → (((a ++ b) ++ w) ++ e) ++ more ≡ a ++ (b ++ (w ++ (e ++ more)))
-regroup a b w e more = simp append_assoc
+regroup_head : (clock word client more : List ℕ) → (((clock ++ 32 ∷ word) ++ 32 ∷ client) ++ 32 ∷ []) ++ more ≡ clock ++ (32 ∷ (word ++ (32 ∷ (client ++ (32 ∷ more)))))
+regroup_head clock word client more = simp append_assoc
 
-of_client : (head client what more : List ℕ) → client ≡ 49 ∷ []
-    → (((head ++ 32 ∷ client) ++ 32 ∷ what) ++ 10 ∷ []) ++ more ≡ (head ++ 32 ∷ 49 ∷ 32 ∷ []) ++ (what ++ 10 ∷ more)
-of_client head client what more is =
-    regroup head (32 ∷ client) (32 ∷ what) (10 ∷ []) more
-    ∙ ap (λ c. head ++ (32 ∷ (c ++ (32 ∷ (what ++ 10 ∷ more))))) is
-    ∙ sym (append_assoc head (32 ∷ 49 ∷ 32 ∷ []) (what ++ 10 ∷ more))
+-- a head is its numbers, each with a space behind it
+pub head_is : (clock word client : ℕ) (more : List ℕ) → head_text clock word client ++ more ≡ decimal clock ++ (32 ∷ (decimal word ++ (32 ∷ (decimal client ++ (32 ∷ more)))))
+head_is clock word client more = regroup_head (decimal clock) (decimal word) (decimal client) more
 
--- a line of client 1 is its head and what the client did
-pub line_is : (turn : Turn) (more : List ℕ) → turn.client ≡ 1 → turn_line turn ++ more ≡ head_text turn.clock turn.word ++ (what_text turn.what ++ 10 ∷ more)
-line_is turn more client = of_client (decimal turn.clock ++ 32 ∷ decimal turn.word) (decimal turn.client) (what_text turn.what) more (ap decimal client ∙ decimal_digit 1 (omega arith))
-
-pub same_arrival : (clock word : ℕ) (what : What) (requests : List Request) (arrival : Arrival) → arrival.turn.client ≡ 1 → clock ≡ arrival.turn.clock → word ≡ arrival.turn.word
-    → what ≡ arrival.turn.what → requests ≡ arrival.requests → ◌≡◌ {A = Arrival} (record { turn = record { clock = clock; word = word; client = 1; what = what }; requests = requests }) arrival
-same_arrival clock word what requests arrival client clock_is word_is what_is requests_are = rw (clock_is, word_is, what_is, requests_are, ← client)
+pub same_turn : (head : Head) (what : What) (turn : Turn) → head ≡ record { clock = turn.clock; word = turn.word; client = turn.client } → what ≡ turn.what
+    → ◌≡◌ {A = Turn} (record { clock = head.clock; word = head.word; client = head.client; what = what }) turn
+same_turn head what turn head_is what_is = ap (λ h. record { clock = h.clock; word = h.word; client = h.client; what = what }) head_is ∙ ap (λ w. record turn { what = w }) what_is

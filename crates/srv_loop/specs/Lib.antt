@@ -1,11 +1,10 @@
-pub use Rattle.rs_base.specs.Bytes
-pub use Rattle.rs_base.specs.Escape
 pub use Rattle.resp_read.specs.Frames
-pub use Rattle.rs_outside.specs.Faults
-pub use Rattle.rs_outside.specs.Known
+pub use Rattle.cl_core.specs.Answers
+pub use Rattle.cl_core.specs.Machine
+pub mod Runs
 pub mod Session
-pub mod Requests
-pub mod Machine
-pub mod History
 pub mod Transcript
+pub mod Taking
+pub mod Stops
+pub mod Serving
 pub mod Play

@@ -1,22 +1,16 @@
-//! Sessions: their lines, the machine that takes them turn by turn, and the transcript that is written of them.
+//! Serving and playing: turns that come over a wire or from a recorded session are taken by the machine, what they log goes
+//! to the log, and then what they send goes to the wire or the transcript.
 #![tactic(auto)]
 
-mod arrival;
-mod frames;
-mod history;
-mod machine;
 mod playing;
-mod request;
+mod serving;
 mod session;
-mod store;
 #[cfg(test)]
 mod tests;
 mod transcript;
 mod writing;
 
-pub use arrival::Arrival;
-pub use history::answers_follow_history;
 pub use playing::play;
-pub use request::Request;
+pub use serving::serve;
 pub use session::{MAX_PIECE_BYTES, session_line};
 pub use transcript::put_row;

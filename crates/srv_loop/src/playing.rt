@@ -2,19 +2,22 @@ ghost use Rattle.std.specs.Prelude.{◌≡◌, ◌⊎◌, ℕ, ◌≤◌, List, 
 ghost use Rattle.rs_outside.specs.declared.status.Status.{Status};
 ghost use Rattle.rs_outside.specs.Faults.{Rose};
 ghost use Rattle.rs_outside.specs.Known.{known_then};
-ghost use Rattle.srv_loop.specs.declared.arrival.Arrival.{Arrival};
+ghost use Rattle.rs_outside.specs.declared.turn.Turn.{Turn};
+ghost use Rattle.cl_core.specs.Machine.{step};
 ghost use Rattle.srv_loop.specs.Session.{IsSession, IsBadLine};
-ghost use Rattle.srv_loop.specs.Machine.{step, log_bytes};
+ghost use Rattle.srv_loop.specs.Runs.{logged_in, log_bytes};
 ghost use Rattle.srv_loop.specs.Transcript.{row_lines, transcript, ending};
-ghost use Rattle.srv_loop.specs.Play.{Plays, CutsPlay, CutsTurn, TookPrefix, StopsAnywhere, IsPlayStatus, Stops, Never};
+ghost use Rattle.srv_loop.specs.Taking.{CutsTurn, TookPrefix};
+ghost use Rattle.srv_loop.specs.Play.{Plays, CutsPlay, StopsAnywhere, IsPlayStatus};
+ghost use Rattle.srv_loop.specs.Stops.{Stops, Never};
 
-use crate::Arrival;
-use crate::machine::Machine;
-use crate::session::{first_arrival, judge};
+use crate::serving::serve_turn;
+use crate::session::{first_turn, judge};
 use crate::transcript::{put_ending, put_rows};
-use crate::writing::{begin, write_log, write_out};
+use crate::writing::{begin, write_out};
+use cl_core::Server;
 use rs_base::Bytes;
-use rs_outside::{Log, Outs, Sink, Status};
+use rs_outside::{Log, Sink, Status, SureWire, Turn, Turns};
 use std::alloc::Global;
 
 /// Plays a session: judges all of its lines, begins the log under `name`, takes the turns, and writes the transcript to
@@ -31,15 +34,15 @@ pub fn play<O: Sink, L: Log>(
     out: &mut O,
     log: &mut L,
 ) -> Status
-    ensures done { result ≡ Status.Done → (arrivals : List Arrival) × IsSession session.now arrivals
-        × Plays name.now arrivals (L.begun log.old) (L.begun log.new) (L.taken log.old) (L.taken log.new) (O.taken out.old) (O.taken out.new) }
-    ensures done_only { (arrivals : List Arrival) → IsSession session.now arrivals → result ≡ Status.Done
-        → Plays name.now arrivals (L.begun log.old) (L.begun log.new) (L.taken log.old) (L.taken log.new) (O.taken out.old) (O.taken out.new) }
+    ensures done { result ≡ Status.Done → (turns : List Turn) × IsSession session.now turns
+        × Plays name.now turns (L.begun log.old) (L.begun log.new) (L.taken log.old) (L.taken log.new) (O.taken out.old) (O.taken out.new) }
+    ensures done_only { (turns : List Turn) → IsSession session.now turns → result ≡ Status.Done
+        → Plays name.now turns (L.begun log.old) (L.begun log.new) (L.taken log.old) (L.taken log.new) (O.taken out.old) (O.taken out.new) }
 
     // A bad line is found, and no session is found bad.
     ensures bad { (line : ℕ) → result ≡ Status.BadInput line → IsBadLine session.now line × (log.new ≡ log.old) × (out.new ≡ out.old) }
     ensures bad_only { (line : ℕ) → IsBadLine session.now line → (result ≡ Status.BadInput line) ⊎ (result ≡ Status.NoMemory) }
-    ensures good_only { (arrivals : List Arrival) (line : ℕ) → IsSession session.now arrivals → result ≡ Status.BadInput line → ⊥ }
+    ensures good_only { (turns : List Turn) (line : ℕ) → IsSession session.now turns → result ≡ Status.BadInput line → ⊥ }
 
     // A fault is answered only where that object's count rose.
     ensures log_fault { result ≡ Status.LogFault → Rose (L.faults log.old) (L.faults log.new) }
@@ -63,14 +66,14 @@ fn try_play<O: Sink, L: Log>(
     out: &mut O,
     log: &mut L,
 ) -> Result<(), Status>
-    ensures ok { OnOk result ((arrivals : List Arrival) × IsSession session.now arrivals
-        × Plays name.now arrivals (L.begun log.old) (L.begun log.new) (L.taken log.old) (L.taken log.new) (O.taken out.old) (O.taken out.new)) }
-    ensures ok_only { (arrivals : List Arrival) → IsSession session.now arrivals → OnOk result
-        (Plays name.now arrivals (L.begun log.old) (L.begun log.new) (L.taken log.old) (L.taken log.new) (O.taken out.old) (O.taken out.new)) }
+    ensures ok { OnOk result ((turns : List Turn) × IsSession session.now turns
+        × Plays name.now turns (L.begun log.old) (L.begun log.new) (L.taken log.old) (L.taken log.new) (O.taken out.old) (O.taken out.new)) }
+    ensures ok_only { (turns : List Turn) → IsSession session.now turns → OnOk result
+        (Plays name.now turns (L.begun log.old) (L.begun log.new) (L.taken log.old) (L.taken log.new) (O.taken out.old) (O.taken out.new)) }
     ensures stop { IfErr result (Stops (λ line. IsBadLine session.now line × (log.new ≡ log.old) × (out.new ≡ out.old))
-        (Rose (L.faults log.old) (L.faults log.new)) (Rose (O.faults out.old) (O.faults out.new))) }
+        (Rose (L.faults log.old) (L.faults log.new)) (Rose (O.faults out.old) (O.faults out.new)) ⊥) }
     ensures bad_only { (line : ℕ) → IsBadLine session.now line → IsErrAnd result (λ status. (status ≡ Status.BadInput line) ⊎ (status ≡ Status.NoMemory)) }
-    ensures good_only { (arrivals : List Arrival) (line : ℕ) → IsSession session.now arrivals → IfErr result (λ status. status ≡ Status.BadInput line → ⊥) }
+    ensures good_only { (turns : List Turn) (line : ℕ) → IsSession session.now turns → IfErr result (λ status. status ≡ Status.BadInput line → ⊥) }
     ensures anywhere { StopsAnywhere session.now name.now (L.begun log.old) (L.begun log.new) (L.taken log.old) (L.taken log.new) (O.taken out.old) (O.taken out.new) }
     ensures log_later { L.faults log.old ≤ L.faults log.new }
     ensures out_later { O.faults out.old ≤ O.faults out.new }
@@ -87,72 +90,71 @@ fn play_turns<O: Sink, L: Log>(
     out: &mut O,
     log: &mut L,
 ) -> Result<(), Status>
-    requires { (arrivals : List Arrival) × IsSession session.now arrivals }
-    ensures ok { (arrivals : List Arrival) → IsSession session.now arrivals → OnOk result
-        ((L.taken log.new ≡ known_then (L.taken log.old) (log_bytes arrivals)) × (O.taken out.new ≡ known_then (O.taken out.old) (transcript arrivals))) }
-    ensures stop { IfErr result (Stops Never (Rose (L.faults log.old) (L.faults log.new)) (Rose (O.faults out.old) (O.faults out.new))) }
+    requires { (turns : List Turn) × IsSession session.now turns }
+    ensures ok { (turns : List Turn) → IsSession session.now turns → OnOk result
+        ((L.taken log.new ≡ known_then (L.taken log.old) (log_bytes turns)) × (O.taken out.new ≡ known_then (O.taken out.old) (transcript turns))) }
+    ensures stop { IfErr result (Stops Never (Rose (L.faults log.old) (L.faults log.new)) (Rose (O.faults out.old) (O.faults out.new)) ⊥) }
     ensures names { L.begun log.new ≡ L.begun log.old }
-    ensures cut { (arrivals : List Arrival) → IsSession session.now arrivals → CutsPlay arrivals (L.taken log.old) (L.taken log.new) (O.taken out.old) (O.taken out.new) }
+    ensures cut { (turns : List Turn) → IsSession session.now turns → CutsPlay turns (L.taken log.old) (L.taken log.new) (O.taken out.old) (O.taken out.new) }
     ensures log_later { L.faults log.old ≤ L.faults log.new }
     ensures out_later { O.faults out.old ≤ O.faults out.new }
 {
-    let mut machine = Machine::new(alloc);
+    let mut server = Server::new(alloc);
     let mut turns = 0u64;
     let mut logged = 0u64;
     let mut rest = session;
     while !rest.is_empty() {
-        let Some((arrival, more)) = first_arrival(alloc, rest)? else {
+        let Some((turn, more)) = first_turn(alloc, rest)? else {
             unreachable!();
         };
-        let bytes = play_turn(alloc, &mut machine, arrival, out, log)?;
+        let bytes = play_turn(alloc, &mut server, turn, out, log)?;
         logged = logged.saturating_add(bytes);
         turns += 1;
         rest = more;
     }
-    write_ending(alloc, &machine, turns, logged, out)
+    write_ending(alloc, &server, turns, logged, out)
 }
 
-// Takes one turn and writes its log bytes, and then the lines of its rows. Answers the number of the log bytes.
+// Serves one turn over a wire in memory, and writes the lines of its rows. Answers the number of the log bytes.
 fn play_turn<O: Sink, L: Log>(
     alloc: Global,
-    machine: &mut Machine,
-    arrival: Arrival,
+    server: &mut Server,
+    turn: Turn,
     out: &mut O,
     log: &mut L,
 ) -> Result<u64, Status>
-    ensures ok { IfOk result (λ n. (machine.new ≡ (step machine.old arrival).state) × (n ≡ length (step machine.old arrival).log)
-        × (L.taken log.new ≡ known_then (L.taken log.old) (step machine.old arrival).log)
-        × (O.taken out.new ≡ known_then (O.taken out.old) (row_lines (step machine.old arrival).rows))) }
-    ensures stop { IfErr result (Stops Never (Rose (L.faults log.old) (L.faults log.new)) (Rose (O.faults out.old) (O.faults out.new))) }
+    ensures server { OnOk result (server.new ≡ (step server.old turn).state) }
+    ensures count { IfOk result (λ n. n ≡ length (logged_in (step server.old turn))) }
+    ensures logged { OnOk result (L.taken log.new ≡ known_then (L.taken log.old) (logged_in (step server.old turn))) }
+    ensures written { OnOk result (O.taken out.new ≡ known_then (O.taken out.old) (row_lines (step server.old turn).rows)) }
+    ensures stop { IfErr result (Stops Never (Rose (L.faults log.old) (L.faults log.new)) (Rose (O.faults out.old) (O.faults out.new)) ⊥) }
     ensures names { L.begun log.new ≡ L.begun log.old }
-    ensures cut { CutsTurn (step machine.old arrival) (L.taken log.old) (L.taken log.new) (O.taken out.old) (O.taken out.new) }
+    ensures cut { CutsTurn (logged_in (step server.old turn)) (row_lines (step server.old turn).rows) (L.taken log.old) (L.taken log.new) (O.taken out.old) (O.taken out.new) }
     ensures log_later { L.faults log.old ≤ L.faults log.new }
     ensures out_later { O.faults out.old ≤ O.faults out.new }
 {
-    let mut rows = Outs::new(alloc);
-    let mut bytes = Bytes::new(alloc);
-    machine.turn(arrival, &mut rows, &mut bytes)?;
+    let mut wire = SureWire::new(alloc, Turns::new(alloc));
+    let bytes = serve_turn(alloc, server, &turn, &mut wire, log)?;
     let mut lines = Bytes::new(alloc);
-    put_rows(&rows, &mut lines)?;
-    write_log(log, bytes.as_slice())?;
+    put_rows(wire.sent(), &mut lines)?;
     write_out(out, lines.as_slice())?;
-    Ok(bytes.len() as u64)
+    Ok(bytes)
 }
 
-// Writes how many turns, keys and log bytes there were, and the dump.
+// Writes the last lines of the transcript.
 fn write_ending<O: Sink>(
     alloc: Global,
-    machine: &Machine,
+    server: &Server,
     turns: u64,
     logged: u64,
     out: &mut O,
 ) -> Result<(), Status>
-    ensures ok { OnOk result (O.taken out.new ≡ known_then (O.taken out.old) (ending turns logged machine.now.store)) }
-    ensures stop { IfErr result (Stops Never ⊥ (Rose (O.faults out.old) (O.faults out.new))) }
-    ensures cut { TookPrefix (O.taken out.old) (O.taken out.new) (ending turns logged machine.now.store) }
+    ensures ok { OnOk result (O.taken out.new ≡ known_then (O.taken out.old) (ending turns logged server.now.store)) }
+    ensures cut { TookPrefix (O.taken out.old) (O.taken out.new) (ending turns logged server.now.store) }
+    ensures stop { IfErr result (Stops Never ⊥ (Rose (O.faults out.old) (O.faults out.new)) ⊥) }
     ensures later { O.faults out.old ≤ O.faults out.new }
 {
-    let mut text = Bytes::new(alloc);
-    put_ending(machine.store(), turns, logged, &mut text)?;
-    write_out(out, text.as_slice())
+    let mut lines = Bytes::new(alloc);
+    put_ending(server, turns, logged, &mut lines)?;
+    write_out(out, lines.as_slice())
 }

@@ -1,96 +1,142 @@
-ghost use Rattle.std.specs.Prelude.{◌≡◌, ◌≢◌, ◌⊎◌, ℕ, ◌+◌, ◌^◌, ◌<◌, List, ◌∷◌, ◌++◌, Some, length, map, IfOk, OnOk, IfSome, IsSomeAnd, IfErr, IsErrAnd};
+ghost use Rattle.std.specs.Prelude.{◌≡◌, ◌≢◌, ◌⊎◌, ℕ, ◌+◌, ◌^◌, ◌<◌, ◌≤◌, List, ◌∷◌, ◌++◌, Some, length, IfOk, OnOk, IfSome, IsSomeAnd, IfErr, IsErrAnd, decimal};
 ghost use Rattle.std.specs.List.{AllByRecursion};
+ghost use Rattle.rs_base.specs.Bytes.{AreBytes};
 ghost use Rattle.rs_base.specs.Escape.{spelling};
 ghost use Rattle.rs_outside.specs.declared.turn.What.{What};
 ghost use Rattle.rs_outside.specs.declared.turn.Turn.{Turn};
-ghost use Rattle.srv_loop.specs.declared.request.Request.{Request};
-ghost use Rattle.srv_loop.specs.declared.arrival.Arrival.{Arrival};
-ghost use Rattle.srv_loop.specs.Session.{IsArrival, IsPiece, Brings, IsSession, IsBadLine, IsJudged, arrival_line, turn_line, what_text, head_text};
-ghost use Rattle.srv_loop.specs.Requests.{AskInOrder};
+ghost use Rattle.srv_loop.specs.Session.{IsTurn, IsWhat, IsSession, IsBadLine, IsJudged, IsPlain, SaysPiece, turn_line, what_text, head_text};
 
-use crate::{Arrival, Request};
 use memchr::memchr;
-use resp_read::{Commands, whole_row};
-use rs_base::{Bytes, NoMemory, Seq, decimal_prefix, unescape};
+use rs_base::{Bytes, NoMemory, decimal_prefix, unescape};
 use rs_outside::{Status, Turn, What};
 use std::alloc::Global;
-use std::collections::VecDeque;
 
 /// The most bytes that a piece of a session may have.
 pub const MAX_PIECE_BYTES: u64 = 1_048_576;
 
-/// The turn of a session line, its LF included. `Ok(None)` exactly where `line` is no session line: `NOW WORD 1 opened`
-/// or `NOW WORD 1 piece TEXT`, ended by LF, where TEXT is the escape of one whole command or more, each a SET with a
-/// key and a value or a GET with a key. NOW and WORD are decimals of 64 bits without leading zeros.
+/// The turn of a session line, its LF included. `Ok(None)` exactly where `line` is no session line: `NOW WORD CLIENT` and
+/// then `opened`, `piece TEXT`, `closed` or, where CLIENT is 0, `idle`, with one space between and LF at the end. NOW and WORD
+/// are decimals of 64 bits and CLIENT one of 32 bits, without leading zeros; TEXT is the escape of at most
+/// [`MAX_PIECE_BYTES`] bytes.
 pub fn session_line(alloc: Global, line: &[u8]) -> Result<Option<Turn>, NoMemory>
-    ensures found { IfOk result (λ found. IfSome found (λ turn. (requests : List Request)
-        × IsArrival (record { turn = turn; requests = requests }) × (line.now ≡ turn_line turn))) }
-    ensures only { (arrival : Arrival) → IsArrival arrival → line.now ≡ arrival_line arrival
-        → IfOk result (λ found. found ≡ Some arrival.turn) }
+    ensures found { IfOk result (λ found. IfSome found (λ turn. IsTurn turn × (line.now ≡ turn_line turn))) }
+    ensures only { (turn : Turn) → IsTurn turn → line.now ≡ turn_line turn → IfOk result (λ found. found ≡ Some turn) }
 {
-    let Some((arrival, rest)) = first_arrival(alloc, line)? else {
+    let Some((turn, rest)) = first_turn(alloc, line)? else {
         return Ok(None);
     };
     if !rest.is_empty() {
         return Ok(None);
     }
-    let Arrival { turn, requests: _ } = arrival;
     Ok(Some(turn))
 }
 
-/// The arrival whose line `text` begins with, and what follows that line. `Ok(None)` exactly where it begins with none.
-pub fn first_arrival(alloc: Global, text: &[u8]) -> Result<Option<(Arrival, &[u8])>, NoMemory>
-    ensures found { IfOk result (λ found. IfSome found (λ x. IsArrival x.0 × (text.now ≡ arrival_line x.0 ++ x.1.now))) }
-    ensures only { (arrival : Arrival) (more : List ℕ) → IsArrival arrival → text.now ≡ arrival_line arrival ++ more
-        → IfOk result (λ found. IsSomeAnd found (λ x. (x.0 ≡ arrival) × (x.1.now ≡ more))) }
+/// The turn whose line `text` begins with, and what follows that line. `Ok(None)` exactly where it begins with none.
+pub fn first_turn(alloc: Global, text: &[u8]) -> Result<Option<(Turn, &[u8])>, NoMemory>
+    ensures found { IfOk result (λ found. IfSome found (λ x. IsTurn x.0 × (text.now ≡ turn_line x.0 ++ x.1.now))) }
+    ensures only { (turn : Turn) (more : List ℕ) → IsTurn turn → text.now ≡ turn_line turn ++ more
+        → IfOk result (λ found. IsSomeAnd found (λ x. (x.0 ≡ turn) × (x.1.now ≡ more))) }
 {
-    let Some((clock, word, rest)) = turn_head(text) else {
+    let Some((head, rest)) = turn_head(text) else {
         return Ok(None);
     };
-    let Some((what, requests, rest)) = first_what(alloc, rest)? else {
+    let Some((what, rest)) = first_what(alloc, head.client, rest)? else {
         return Ok(None);
     };
     let turn = Turn {
-        clock,
-        word,
-        client: 1,
+        clock: head.clock,
+        word: head.word,
+        client: head.client,
         what,
     };
-    Ok(Some((Arrival { turn, requests }, rest)))
+    Ok(Some((turn, rest)))
 }
 
-// `NOW WORD 1 `
-fn turn_head(text: &[u8]) -> Option<(u64, u64, &[u8])>
-    ensures found { IfSome result (λ x. text.now ≡ head_text x.0 x.1 ++ x.2.now) }
-    ensures only { (clock word : ℕ) (rest : List ℕ) → clock < 2 ^ 64 → word < 2 ^ 64 → text.now ≡ head_text clock word ++ rest
-        → IsSomeAnd result (λ x. (x.0 ≡ clock) × (x.1 ≡ word) × (x.2.now ≡ rest)) }
+// The numbers at the front of a session line.
+#[derive(Clone, Copy, Debug)]
+struct Head {
+    clock: u64,
+    word: u64,
+    client: u32,
+}
+
+// `NOW WORD CLIENT `
+fn turn_head(text: &[u8]) -> Option<(Head, &[u8])>
+    ensures found { IfSome result (λ x. text.now ≡ head_text x.0.clock x.0.word x.0.client ++ x.1.now) }
+    ensures only { (clock word client : ℕ) (rest : List ℕ) → clock < 2 ^ 64 → word < 2 ^ 64 → client < 2 ^ 32 → text.now ≡ head_text clock word client ++ rest
+        → IsSomeAnd result (λ x. (x.0 ≡ record { clock = clock; word = word; client = client }) × (x.1.now ≡ rest)) }
 {
-    let (clock, rest) = decimal_prefix(text)?;
-    let rest = after_prefix(rest, b" ")?;
-    let (word, rest) = decimal_prefix(rest)?;
-    let rest = after_prefix(rest, b" 1 ")?;
-    Some((clock, word, rest))
+    let (clock, rest) = first_number(text)?;
+    let (word, rest) = first_number(rest)?;
+    let (client, rest) = first_number(rest)?;
+    let client = u32::try_from(client).ok()?;
+    Some((
+        Head {
+            clock,
+            word,
+            client,
+        },
+        rest,
+    ))
 }
 
-// `opened` or `piece TEXT`, and LF
-fn first_what(alloc: Global, text: &[u8]) -> Result<Option<(What, Seq<Request>, &[u8])>, NoMemory>
-    ensures found { IfOk result (λ found. IfSome found (λ x. Brings x.0 x.1 × (text.now ≡ what_text x.0 ++ 10 ∷ x.2.now))) }
-    ensures only { (what : What) (requests : List Request) (rest : List ℕ) → Brings what requests → text.now ≡ what_text what ++ 10 ∷ rest
-        → IfOk result (λ found. IsSomeAnd found (λ x. (x.0 ≡ what) × (x.1 ≡ requests) × (x.2.now ≡ rest))) }
+// The number at the front of a text, and what follows the space behind it.
+fn first_number(text: &[u8]) -> Option<(u64, &[u8])>
+    ensures found { IfSome result (λ x. text.now ≡ decimal x.0 ++ 32 ∷ x.1.now) }
+    ensures only { (n : ℕ) (rest : List ℕ) → n < 2 ^ 64 → text.now ≡ decimal n ++ 32 ∷ rest → IsSomeAnd result (λ x. (x.0 ≡ n) × (x.1.now ≡ rest)) }
+{
+    let (n, rest) = decimal_prefix(text)?;
+    let rest = after_prefix(rest, b" ")?;
+    Some((n, rest))
+}
+
+// What a client did, in the last place of a line, and what follows the line.
+fn first_what(alloc: Global, client: u32, text: &[u8]) -> Result<Option<(What, &[u8])>, NoMemory>
+    ensures found { IfOk result (λ found. IfSome found (λ x. IsWhat client x.0 × (text.now ≡ what_text x.0 ++ 10 ∷ x.1.now))) }
+    ensures only { (what : What) (rest : List ℕ) → IsWhat client what → text.now ≡ what_text what ++ 10 ∷ rest
+        → IfOk result (λ found. IsSomeAnd found (λ x. (x.0 ≡ what) × (x.1.now ≡ rest))) }
+{
+    if let Some(rest) = after_prefix(text, b"piece ") {
+        return first_piece(alloc, rest);
+    }
+    Ok(plain_what(client, text))
+}
+
+// `opened`, `closed` or, of client 0, `idle`, and LF
+fn plain_what(client: u32, text: &[u8]) -> Option<(What, &[u8])>
+    ensures found { IfSome result (λ x. IsWhat client x.0 × IsPlain x.0 × (text.now ≡ what_text x.0 ++ 10 ∷ x.1.now)) }
+    ensures only { (what : What) (rest : List ℕ) → IsWhat client what → IsPlain what → text.now ≡ what_text what ++ 10 ∷ rest
+        → IsSomeAnd result (λ x. (x.0 ≡ what) × (x.1.now ≡ rest)) }
 {
     if let Some(rest) = after_prefix(text, b"opened\n") {
-        return Ok(Some((What::Opened, Seq::new(alloc), rest)));
+        return Some((What::Opened, rest));
     }
-    let Some(rest) = after_prefix(text, b"piece ") else {
+    if let Some(rest) = after_prefix(text, b"closed\n") {
+        return Some((What::Closed, rest));
+    }
+    if client != 0 {
+        return None;
+    }
+    let rest = after_prefix(text, b"idle\n")?;
+    Some((What::Idle, rest))
+}
+
+// A piece, whose escape stands at the front of a text up to LF.
+fn first_piece(alloc: Global, text: &[u8]) -> Result<Option<(What, &[u8])>, NoMemory>
+    ensures found { IfOk result (λ found. IfSome found (λ x. SaysPiece x.0 text.now x.1.now)) }
+    ensures only { (bytes rest : List ℕ) → AreBytes bytes → length bytes ≤ 1048576 → text.now ≡ spelling bytes ++ 10 ∷ rest
+        → IfOk result (λ found. IsSomeAnd found (λ x. (x.0 ≡ What.Piece bytes) × (x.1.now ≡ rest))) }
+{
+    let Some((escaped, rest)) = first_line(text) else {
         return Ok(None);
     };
-    let Some((escaped, rest)) = first_line(rest) else {
+    let Some(bytes) = unescape(alloc, escaped)? else {
         return Ok(None);
     };
-    let Some((bytes, requests)) = read_piece(alloc, escaped)? else {
+    if bytes.len() as u64 > MAX_PIECE_BYTES {
         return Ok(None);
-    };
-    Ok(Some((What::Piece(bytes), requests, rest)))
+    }
+    Ok(Some((What::Piece(bytes), rest)))
 }
 
 // What stands before the first LF, and what follows it.
@@ -113,54 +159,17 @@ fn after_prefix<'t>(text: &'t [u8], prefix: &[u8]) -> Option<&'t [u8]>
     text.strip_prefix(prefix)
 }
 
-// The bytes that an escaped piece stands for, with the requests of the commands in it.
-fn read_piece(alloc: Global, escaped: &[u8]) -> Result<Option<(Bytes, Seq<Request>)>, NoMemory>
-    ensures found { IfOk result (λ found. IfSome found (λ x. IsPiece x.0 x.1 × (escaped.now ≡ spelling x.0))) }
-    ensures only { (bytes : List ℕ) (requests : List Request) → IsPiece bytes requests → escaped.now ≡ spelling bytes
-        → IfOk result (λ found. IsSomeAnd found (λ x. (x.0 ≡ bytes) × (x.1 ≡ requests))) }
-{
-    let Some(bytes) = unescape(alloc, escaped)? else {
-        return Ok(None);
-    };
-    if bytes.is_empty() || bytes.len() as u64 > MAX_PIECE_BYTES {
-        return Ok(None);
-    }
-    let Some(commands) = whole_row(alloc, bytes.as_slice())? else {
-        return Ok(None);
-    };
-    let Some(requests) = requests_of(alloc, commands)? else {
-        return Ok(None);
-    };
-    Ok(Some((bytes, requests)))
-}
-
-// The requests of commands, in order. `Ok(None)` exactly where one of them asks for nothing.
-fn requests_of(alloc: Global, commands: Commands) -> Result<Option<Seq<Request>>, NoMemory>
-    ensures found { IfOk result (λ found. IfSome found (λ requests. AskInOrder (map (λ c. c.words) commands) requests)) }
-    ensures only { (requests : List Request) → AskInOrder (map (λ c. c.words) commands) requests → IfOk result (λ found. found ≡ Some requests) }
-{
-    let mut requests = Seq::new(alloc);
-    let mut left = VecDeque::from_vec(commands.into_vec());
-    while let Some(command) = left.pop_front() {
-        let Some(request) = Request::from_words(command.words) else {
-            return Ok(None);
-        };
-        requests.push(request)?;
-    }
-    Ok(Some(requests))
-}
-
 /// Judges a session: `Ok` where all its lines are session lines, and else the first bad line.
 pub fn judge(alloc: Global, session: &[u8]) -> Result<(), Status>
-    ensures good { OnOk result ((arrivals : List Arrival) × IsSession session.now arrivals) }
+    ensures good { OnOk result ((turns : List Turn) × IsSession session.now turns) }
     ensures bad { IfErr result (λ status. IsJudged session.now status) }
-    ensures good_only { (arrivals : List Arrival) → IsSession session.now arrivals → IfErr result (λ status. status ≡ Status.NoMemory) }
+    ensures good_only { (turns : List Turn) → IsSession session.now turns → IfErr result (λ status. status ≡ Status.NoMemory) }
     ensures bad_only { (line : ℕ) → IsBadLine session.now line → IsErrAnd result (λ status. (status ≡ Status.BadInput line) ⊎ (status ≡ Status.NoMemory)) }
 {
     let mut line = 1u64;
     let mut rest = session;
     while !rest.is_empty() {
-        let Some((_, more)) = first_arrival(alloc, rest)? else {
+        let Some((_, more)) = first_turn(alloc, rest)? else {
             return Err(Status::BadInput { line });
         };
         rest = more;

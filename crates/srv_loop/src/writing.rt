@@ -2,7 +2,8 @@ ghost use Rattle.std.specs.Prelude.{◌≡◌, ◌⊎◌, ◌∷◌, [], ◌≤�
 ghost use Rattle.rs_outside.specs.declared.status.Status.{Status};
 ghost use Rattle.rs_outside.specs.Faults.{Rose};
 ghost use Rattle.rs_outside.specs.Known.{known_then};
-ghost use Rattle.srv_loop.specs.Play.{TookPrefix, Stops, Never};
+ghost use Rattle.srv_loop.specs.Taking.{TookPrefix};
+ghost use Rattle.srv_loop.specs.Stops.{Stops, Never};
 
 use rs_outside::{IoStop, Log, Sink, Status};
 
@@ -29,7 +30,7 @@ pub fn write_log<L: Log>(log: &mut L, bytes: &[u8]) -> Result<(), Status>
     ensures prefix { TookPrefix (L.taken log.old) (L.taken log.new) bytes.now }
     ensures names { L.begun log.new ≡ L.begun log.old }
     ensures later { L.faults log.old ≤ L.faults log.new }
-    ensures stop { IfErr result (Stops Never (Rose (L.faults log.old) (L.faults log.new)) ⊥) }
+    ensures stop { IfErr result (Stops Never (Rose (L.faults log.old) (L.faults log.new)) ⊥ ⊥) }
 {
     match write_all(log, bytes) {
         Ok(()) => Ok(()),
@@ -43,7 +44,7 @@ pub fn write_out<O: Sink>(out: &mut O, bytes: &[u8]) -> Result<(), Status>
     ensures ok { OnOk result (O.taken out.new ≡ known_then (O.taken out.old) bytes.now) }
     ensures prefix { TookPrefix (O.taken out.old) (O.taken out.new) bytes.now }
     ensures later { O.faults out.old ≤ O.faults out.new }
-    ensures stop { IfErr result (Stops Never ⊥ (Rose (O.faults out.old) (O.faults out.new))) }
+    ensures stop { IfErr result (Stops Never ⊥ (Rose (O.faults out.old) (O.faults out.new)) ⊥) }
 {
     match write_all(out, bytes) {
         Ok(()) => Ok(()),
@@ -58,7 +59,7 @@ pub fn begin<L: Log>(log: &mut L, name: &[u8]) -> Result<(), Status>
     ensures err { OnErr result (L.begun log.new ≡ L.begun log.old) }
     ensures bytes { L.taken log.new ≡ L.taken log.old }
     ensures later { L.faults log.old ≤ L.faults log.new }
-    ensures stop { IfErr result (Stops Never (Rose (L.faults log.old) (L.faults log.new)) ⊥) }
+    ensures stop { IfErr result (Stops Never (Rose (L.faults log.old) (L.faults log.new)) ⊥ ⊥) }
 {
     match log.begin(name) {
         Ok(()) => Ok(()),

@@ -11,16 +11,16 @@ loop-rest-init c = IsRead-start c.args.session.now
 pub returns-in_default-clause-bad : goal.returns-in_default-clause-bad
 returns-in_default-clause-bad c =
     let some : 0 < length c.loop-rest.rest.now = grind (arith, nat_tests, c.loop-rest-test.ensures) in
-    IsRead-bad _ _ _ c.loop-rest.invariant some (λ arrival more is e. rw c.in_default.is at (c.in_ok-more.ensures.only arrival more is e))
+    IsRead-bad _ _ _ c.loop-rest.invariant some (λ turn more is e. rw c.in_default.is at (c.in_ok-more.ensures.only turn more is e))
 
 pub returns-in_default-clause-good_only : goal.returns-in_default-clause-good_only
-returns-in_default-clause-good_only c = λ arrivals is.
+returns-in_default-clause-good_only c = λ turns is.
     let some : 0 < length c.loop-rest.rest.now = grind (arith, nat_tests, c.loop-rest-test.ensures) in
-    absurd (IsRead-no_session _ _ _ c.loop-rest.invariant some (λ arrival more is e. rw c.in_default.is at (c.in_ok-more.ensures.only arrival more is e)) arrivals is)
+    absurd (IsRead-no_session _ _ _ c.loop-rest.invariant some (λ turn more is e. rw c.in_default.is at (c.in_ok-more.ensures.only turn more is e)) turns is)
 
 pub returns-in_default-clause-bad_only : goal.returns-in_default-clause-bad_only
 returns-in_default-clause-bad_only c = λ line bad.
-    inl (ap BadInput (IsRead-same_line _ _ _ c.loop-rest.invariant (λ arrival more is e. rw c.in_default.is at (c.in_ok-more.ensures.only arrival more is e)) line bad))
+    inl (ap BadInput (IsRead-same_line _ _ _ c.loop-rest.invariant (λ turn more is e. rw c.in_default.is at (c.in_ok-more.ensures.only turn more is e)) line bad))
 
 pub overflow_add-line : goal.overflow_add-line
 overflow_add-line c =

@@ -1,0 +1,2 @@
+pub use Rattle.resp_read.specs.Frames
+pub mod Groups

@@ -1,0 +1,2 @@
+pub use Rattle.rs_base.specs.Bytes
+pub mod Replies
