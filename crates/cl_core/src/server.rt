@@ -304,7 +304,7 @@ mod tests {
                 client: 0,
                 what: What::Idle,
             };
-            server.turn(&turn, &mut outs, &mut groups)?;
+            assert_eq!(rt; server.turn(&turn, &mut outs, &mut groups)?, Go::On);
             assert_eq!(rt; server.time, time, "at {clock}");
         }
         Ok(())

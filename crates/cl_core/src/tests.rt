@@ -4,7 +4,7 @@ use crate::{CommandName, MAX_CLIENTS, Request, Server};
 use fx_log::{Effects, Groups, write_group};
 use resp_reply::put;
 use rs_base::{Bytes, NoMemory, Words, parse_decimal, unescape, write_decimal};
-use rs_outside::{Go, OutRow, Outs, Turn, What};
+use rs_outside::{OutRow, Outs, Turn, What};
 use std::alloc::Global;
 use std::test::Fail;
 
@@ -56,13 +56,33 @@ fn log_of(alloc: Global, groups: &Groups) -> Result<Bytes, NoMemory> {
     Ok(text)
 }
 
-fn opened(client: u32) -> Turn {
-    Turn {
+// Takes a turn at time 1000, and tells its rows.
+fn turned(
+    alloc: Global,
+    server: &mut Server,
+    groups: &mut Groups,
+    client: u32,
+    what: What,
+) -> Result<Bytes, NoMemory> {
+    let turn = Turn {
         clock: 1000,
         word: 0,
         client,
-        what: What::Opened,
-    }
+        what,
+    };
+    let mut outs = Outs::new(alloc);
+    let _go = server.turn(&turn, &mut outs, groups)?;
+    told_rows(alloc, &outs)
+}
+
+// Answers a request: its reply's bytes, and its records.
+fn answered(alloc: Global, store: &mut Store, words: Words) -> Result<(Bytes, Bytes), NoMemory> {
+    let mut records = Effects::new(alloc);
+    let request = Request::from_words(alloc, words)?;
+    let reply = answer(alloc, store, request, &mut records)?;
+    let mut bytes = Bytes::new(alloc);
+    put(&reply, &mut bytes)?;
+    Ok((bytes, told_records(alloc, &records)?))
 }
 
 #[test]
@@ -103,7 +123,8 @@ fn field(alloc: Global, found: Option<&[u8]>) -> Result<Bytes, Fail> {
 }
 
 // Requests one behind the other: the words between spaces, the reply, and the records, each in the escape.
-const REQUESTS: &[u8] = br"PING +PONG\r\n \e
+fn requests() -> &'static [u8] {
+    br"PING +PONG\r\n \e
 ping\shello $5\r\nhello\r\n \e
 PING\s $0\r\n\r\n \e
 PING\sa\sb -ERR\swrong\snumber\sof\sarguments\sfor\s'ping'\scommand\r\n \e
@@ -131,25 +152,23 @@ QUIT +OK\r\n \e
 QUIT\snow -ERR\swrong\snumber\sof\sarguments\sfor\s'quit'\scommand\r\n \e
 NoSuch\sa\sb -ERR\sunknown\scommand\s'NoSuch'\r\n \e
 a\r\nb -ERR\sunknown\scommand\s'a\s\sb'\r\n \e
-\e -ERR\sunknown\scommand\s''\r\n \e";
+\e -ERR\sunknown\scommand\s''\r\n \e"
+}
 
 #[test]
 fn answers_requests(rt: HostRuntime) -> Result<(), Fail> {
     let alloc = rt.alloc();
     let mut store = Store::new(alloc);
-    for line in REQUESTS.split(|byte| *byte == b'\n') {
+    for line in requests().split(|byte| *byte == b'\n') {
         let mut fields = line.split(|byte| *byte == b' ');
         let words = field(alloc, fields.next())?;
         let spelled = field(alloc, fields.next())?;
         let recorded = field(alloc, fields.next())?;
 
-        let mut records = Effects::new(alloc);
-        let request = Request::from_words(alloc, words_of(alloc, words.as_slice())?)?;
-        let reply = answer(alloc, &mut store, request, &mut records)?;
-        let mut bytes = Bytes::new(alloc);
-        put(&reply, &mut bytes)?;
+        let words = words_of(alloc, words.as_slice())?;
+        let (bytes, records) = answered(alloc, &mut store, words)?;
         assert_eq!(rt; bytes, spelled, "to {line:?}");
-        assert_eq!(rt; told_records(alloc, &records)?, recorded, "of {line:?}");
+        assert_eq!(rt; records, recorded, "of {line:?}");
     }
     assert_eq!(rt; store.len(), 0);
     Ok(())
@@ -170,10 +189,7 @@ fn cuts_long_names(rt: HostRuntime) -> Result<(), Fail> {
     let mut words = Words::new(alloc);
     words.push(name)?;
     let mut store = Store::new(alloc);
-    let request = Request::from_words(alloc, words)?;
-    let reply = answer(alloc, &mut store, request, &mut Effects::new(alloc))?;
-    let mut bytes = Bytes::new(alloc);
-    put(&reply, &mut bytes)?;
+    let (bytes, _records) = answered(alloc, &mut store, words)?;
     assert_eq!(rt; bytes, spelled);
     Ok(())
 }
@@ -181,7 +197,8 @@ fn cuts_long_names(rt: HostRuntime) -> Result<(), Fail> {
 // Turns one behind the other: a mark (`o` opened, `p` piece, `c` closed, `i` idle), the client, its bytes, and the rows
 // that the turn gives. Clients 1 and 2 begin requests in one order and end them in the other; 2 says more behind its QUIT;
 // 1 goes bad behind a request, 3 to 6 each in another way.
-const TURNS: &[u8] = br"p 1 *1\r\n$4\r\nPING\r\n \e
+fn turns() -> &'static [u8] {
+    br"p 1 *1\r\n$4\r\nPING\r\n \e
 c 1 \e \e
 o 1 \e \e
 p 1 *1\r\n$4\r\nPI \e
@@ -210,7 +227,13 @@ o 7 \e \e
 p 7 *1\r\n \e
 c 7 \e \e
 o 7 \e \e
-p 7 *1\r\n$4\r\nPING\r\n 7+PONG\r\n";
+p 7 *1\r\n$4\r\nPING\r\n 7+PONG\r\n"
+}
+
+// The log of the turns.
+fn logged() -> &'static [u8] {
+    b"*3\r\n$3\r\nSET\r\n$1\r\nk\r\n$3\r\ntwo\r\n*3\r\n$3\r\nSET\r\n$1\r\nk\r\n$3\r\none\r\n*3\r\n$3\r\nSET\r\n$1\r\na\r\n$1\r\n1\r\n*3\r\n$3\r\nSET\r\n$1\r\nb\r\n$1\r\n2\r\n*1\r\n$5\r\nMULTI\r\n*2\r\n$3\r\nDEL\r\n$1\r\na\r\n*2\r\n$3\r\nDEL\r\n$1\r\nb\r\n*1\r\n$4\r\nEXEC\r\n"
+}
 
 fn what_of(mark: &[u8], bytes: Bytes) -> What {
     match mark {
@@ -226,27 +249,25 @@ fn takes_turns(rt: HostRuntime) -> Result<(), Fail> {
     let alloc = rt.alloc();
     let mut server = Server::new(alloc);
     let mut groups = Groups::new(alloc);
-    for line in TURNS.split(|byte| *byte == b'\n') {
+    for line in turns().split(|byte| *byte == b'\n') {
         let mut fields = line.split(|byte| *byte == b' ');
         let mark = fields.next().ok_or("no mark")?;
         let client = parse_decimal(fields.next().ok_or("no client")?).ok_or("no number")?;
         let bytes = field(alloc, fields.next())?;
         let rows = field(alloc, fields.next())?;
 
-        let turn = Turn {
-            clock: 1000,
-            word: 0,
-            client: u32::try_from(client).ok().ok_or("no client")?,
-            what: what_of(mark, bytes),
-        };
-        let mut outs = Outs::new(alloc);
-        assert_eq!(rt; server.turn(&turn, &mut outs, &mut groups)?, Go::On);
-        assert_eq!(rt; told_rows(alloc, &outs)?, rows, "at {line:?}");
+        let client = u32::try_from(client).ok().ok_or("no client")?;
+        let told = turned(
+            alloc,
+            &mut server,
+            &mut groups,
+            client,
+            what_of(mark, bytes),
+        )?;
+        assert_eq!(rt; told, rows, "at {line:?}");
     }
 
-    let logged =
-        b"*3\r\n$3\r\nSET\r\n$1\r\nk\r\n$3\r\ntwo\r\n*3\r\n$3\r\nSET\r\n$1\r\nk\r\n$3\r\none\r\n*3\r\n$3\r\nSET\r\n$1\r\na\r\n$1\r\n1\r\n*3\r\n$3\r\nSET\r\n$1\r\nb\r\n$1\r\n2\r\n*1\r\n$5\r\nMULTI\r\n*2\r\n$3\r\nDEL\r\n$1\r\na\r\n*2\r\n$3\r\nDEL\r\n$1\r\nb\r\n*1\r\n$4\r\nEXEC\r\n";
-    assert_eq!(rt; log_of(alloc, &groups)?.as_slice(), logged.as_slice());
+    assert_eq!(rt; log_of(alloc, &groups)?.as_slice(), logged());
     assert_eq!(rt; server.keys(), 1);
     let mut dump = Bytes::new(alloc);
     server.dump(&mut dump)?;
@@ -259,28 +280,28 @@ fn refuses_the_client_past_the_most(rt: HostRuntime) -> Result<(), Fail> {
     let alloc = rt.alloc();
     assert_eq!(rt; MAX_CLIENTS, 1_000);
     let mut server = Server::new(alloc);
-    let mut outs = Outs::new(alloc);
     let mut groups = Groups::new(alloc);
     for client in 0..1_000u32 {
-        server.turn(&opened(client), &mut outs, &mut groups)?;
+        let told = turned(alloc, &mut server, &mut groups, client, What::Opened)?;
+        assert!(rt; told.is_empty(), "at {client}");
     }
-    assert!(rt; outs.is_empty());
-    server.turn(&opened(1_000), &mut outs, &mut groups)?;
     let refused = b"1000-ERR max number of clients reached\r\n1000 shut\r\n";
-    assert_eq!(rt; told_rows(alloc, &outs)?.as_slice(), refused.as_slice());
+    let told = turned(alloc, &mut server, &mut groups, 1_000, What::Opened)?;
+    assert_eq!(rt; told.as_slice(), refused.as_slice());
 
-    let closed = Turn {
-        clock: 1000,
-        word: 0,
-        client: 7,
-        what: What::Closed,
-    };
-    server.turn(&closed, &mut outs, &mut groups)?;
-    server.turn(&opened(1_000), &mut outs, &mut groups)?;
-    server.turn(&opened(999), &mut outs, &mut groups)?;
-    assert_eq!(rt; outs.len(), 2);
-    server.turn(&opened(7), &mut outs, &mut groups)?;
-    assert_eq!(rt; outs.len(), 4);
+    for (client, what, rows) in [
+        (7, What::Closed, b"".as_slice()),
+        (1_000, What::Opened, b""),
+        (999, What::Opened, b""),
+        (
+            7,
+            What::Opened,
+            b"7-ERR max number of clients reached\r\n7 shut\r\n",
+        ),
+    ] {
+        let told = turned(alloc, &mut server, &mut groups, client, what)?;
+        assert_eq!(rt; told.as_slice(), rows, "at {client}");
+    }
     assert!(rt; groups.is_empty());
     Ok(())
 }
