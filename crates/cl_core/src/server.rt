@@ -286,27 +286,3 @@ fn protocol_fault(alloc: Global, kind: BadFrame) -> Result<Reply, NoMemory>
     };
     Reply::fault(alloc, text)
 }
-
-#[cfg(test)]
-mod tests {
-    use super::*;
-    use std::test::Fail;
-
-    #[test]
-    fn keeps_the_greatest_clock(rt: HostRuntime) -> Result<(), Fail> {
-        let mut server = Server::new(rt.alloc());
-        let mut outs = Outs::new(rt.alloc());
-        let mut groups = Groups::new(rt.alloc());
-        for (clock, time) in [(5, 5), (3, 5), (5, 5), (u64::MAX, u64::MAX), (0, u64::MAX)] {
-            let turn = Turn {
-                clock,
-                word: 0,
-                client: 0,
-                what: What::Idle,
-            };
-            assert_eq!(rt; server.turn(&turn, &mut outs, &mut groups)?, Go::On);
-            assert_eq!(rt; server.time, time, "at {clock}");
-        }
-        Ok(())
-    }
-}

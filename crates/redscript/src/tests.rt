@@ -2,7 +2,7 @@ ghost use Rattle.std.specs.Prelude.{None};
 
 use crate::command_line::{Lone, lone_word};
 use crate::running::run;
-use rs_base::{Bytes, NoMemory, Words, escape};
+use rs_base::{Bytes, NoMemory, Words, escape, write_decimal};
 use rs_outside::{
     Failed, IoStop, Log, Sink, Source, Status, SureLog, SureSink, SureSource, SureWire, Turns,
 };
@@ -136,6 +136,24 @@ fn plays_any_cutting(rt: HostRuntime) -> Result<(), Fail> {
         )?;
     }
     Ok(())
+}
+
+// A thousand clients open; the next one is told that they are the most, and shut.
+#[test]
+fn refuses_the_client_past_the_most(rt: HostRuntime) -> Result<(), Fail> {
+    let mut session = Bytes::new(rt.alloc());
+    for client in 1..=1_001u64 {
+        session.append(b"1000 0 ")?;
+        write_decimal(client, &mut session)?;
+        session.append(b" opened\n")?;
+    }
+    plays(
+        &rt,
+        rt.alloc(),
+        session.as_slice(),
+        b"1001 send -ERR\\smax\\snumber\\sof\\sclients\\sreached\\r\\n\n1001 shut\nend turns=1001 keys=0 log=0\n",
+        b"",
+    )
 }
 
 #[test]
