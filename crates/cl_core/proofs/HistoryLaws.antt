@@ -12,13 +12,16 @@ use Rattle.rs_outside.specs.declared.turn.Turn.{Turn}
 use Rattle.rs_outside.specs.declared.turn.OutRow.TheVariants.{Shut}
 use Rattle.cl_core.specs.declared.request.Request.{Request}
 use Rattle.cl_core.specs.declared.request.Request.TheVariants as request
-use Rattle.cl_core.specs.Answers.{Store, bulk_or_null, is_value, set_record, del_record, removed, reply_to, store_after, records_of}
+use Rattle.ks_space.specs.declared.entry.Entry.{Entry}
+use Rattle.ks_space.specs.declared.record.Record.TheVariants.{Set, Del}
+use Rattle.ks_space.specs.Store.{plain_string}
+use Rattle.cl_core.specs.Answers.{Store, bulk_or_null, is_value, removed, reply_to, store_after, records_of}
 use Rattle.cl_core.specs.Machine.{Clients, Run, silent, beginning, reply_row, sending, group_of, with_request, with_turn, run_from}
 use Rattle.cl_core.specs.History.{Event, Asked, Told, Ended, events_by, events_from, asked_by, is_among, made_of, or_earlier, last_made, value_after, each_once, held_of, reply_after, records_after, rows_after, groups_after, IsHistory}
 use Rattle.cl_core.proofs.EventLaws.{with_event, moved, fold_moved, with_turn_is, clients_then, time_then}
 
 abbrev Value : Type 0
-Value = Option (List ℕ)
+Value = Option Entry
 
 or_none : (made : Option Value) → or_earlier made None ≡ made
 or_none None = refl
@@ -60,8 +63,8 @@ get_after : (store : Store) (asked : Request) (key : List ℕ) → finite.get (s
 get_after store request.Ping key = refl
 get_after store (request.Echo message) key = refl
 get_after store (request.Set name value) key =
-    finite.get-insert nat_list_cmp_total store name value key ∙ ap (λ b. cond b (Some value) (finite.get store key)) (sym (texts_ties key name))
-    ∙ chosen (bytes_eq key name) (Some value) (finite.get store key)
+    finite.get-insert nat_list_cmp_total store name (plain_string value) key ∙ ap (λ b. cond b (Some (plain_string value)) (finite.get store key)) (sym (texts_ties key name))
+    ∙ chosen (bytes_eq key name) (Some (plain_string value)) (finite.get store key)
 get_after store (request.Get name) key = refl
 get_after store (request.Del keys) key = get_removed keys store key ∙ chosen (is_among key keys) None (finite.get store key)
 get_after store request.Quit key = refl
@@ -115,9 +118,9 @@ reply_is store before (request.Refused why) stands = refl
 records_is : (store : Store) (before : List Request) (asked : Request) → Stands store before → records_of store asked ≡ records_after before asked
 records_is store before request.Ping stands = refl
 records_is store before (request.Echo message) stands = refl
-records_is store before (request.Set key value) stands = ap (λ old. cond (is_value old value) [] (set_record key value ∷ [])) (stands key)
+records_is store before (request.Set key value) stands = ap (λ old. cond (is_value old value) [] (Set key value ∷ [])) (stands key)
 records_is store before (request.Get key) stands = refl
-records_is store before (request.Del keys) stands = ap (map del_record) (held_is store before keys stands)
+records_is store before (request.Del keys) stands = ap (map Del) (held_is store before keys stands)
 records_is store before request.Quit stands = refl
 records_is store before (request.Refused why) stands = refl
 

@@ -6,3 +6,4 @@ pub mod MapLaws
 pub mod RunLaws
 pub mod ShortLaws
 pub mod ValidLaws
+pub mod ReplayLaws

@@ -10,11 +10,12 @@ use Rattle.resp_read.specs.Reading.{Reading, Unfinished, Broken, reading, IsRead
 use Rattle.rs_outside.specs.declared.turn.Turn.{Turn}
 use Rattle.rs_outside.specs.declared.turn.What.{What}
 use Rattle.rs_outside.specs.declared.turn.What.TheVariants.{Opened, Piece, Closed, Idle}
+use Rattle.ks_space.specs.declared.entry.Entry.{Entry}
 use Rattle.cl_core.specs.Machine.{Clients, State, beginning, silent, quits, asked_in, step}
 use Rattle.cl_core.specs.History.{events_by, keeping, clients_piece, clients_by}
 use Rattle.cl_core.specs.Valid.{AreValid, AreShort, IsValid}
 use Rattle.cl_core.proofs.EventLaws.{turn_is}
-use Rattle.cl_core.proofs.ShortLaws.{events_short, fold_short}
+use Rattle.cl_core.proofs.ShortLaws.{events_fit, fold_short}
 
 less : (n most : ℕ) (b : Bool) (m : ℕ) → m ≡ cond b (n - 1) n → n ≤ most → m ≤ most
 less n most true m e le = omega arith
@@ -79,14 +80,14 @@ module _ (left_waits : (text : List ℕ) (forms : List Form) (left : List ℕ) �
     step_valid reads state turn valid = record {
       clients = subst (λ run. AreValid run.state.clients) (sym (turn_is (silent state) turn)) (turn_by_valid turn.what state.clients turn.client valid.clients);
       store = subst (λ run. AreShort run.state.store) (sym (turn_is (silent state) turn))
-          (fold_short (events_by turn.what turn.client state.clients) (silent state) valid.store (events_short reads turn.what turn.client state.clients));
+          (fold_short (events_by turn.what turn.client state.clients) (silent state) valid.store (events_fit reads turn.what turn.client state.clients));
     }
 
 pub time_rises : (state : State) (turn : Turn) → state.time ≤ (step state turn).state.time
 time_rises state turn = subst (λ run. state.time ≤ run.state.time) (sym (turn_is (silent state) turn)) (omega arith)
 
-none_kept : (key value : List ℕ) → finite.get beginning.store key ≡ Some value → ⊥
-none_kept key value found = let none : finite.get beginning.store key ≡ None = finite.get-empty (slice_cmp nat_cmp) key in cc
+none_kept : (key : List ℕ) (entry : Entry) → finite.get beginning.store key ≡ Some entry → ⊥
+none_kept key entry found = let none : finite.get beginning.store key ≡ None = finite.get-empty (slice_cmp nat_cmp) key in cc
 
 pub beginning_valid : IsValid beginning
 beginning_valid = record {
@@ -94,5 +95,5 @@ beginning_valid = record {
     few = subst (λ n. n ≤ 1000) (sym (finite.len-empty nat_cmp (List ℕ))) (omega arith);
     unfinished = λ client left found. absurd (none_found client left found);
   };
-  store = λ key value found. absurd (none_kept key value found);
+  store = λ key entry found. absurd (none_kept key entry found);
 }

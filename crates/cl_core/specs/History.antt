@@ -16,7 +16,11 @@ use Rattle.fx_log.specs.declared.group.Group.{Group}
 use Rattle.cl_core.specs.declared.request.Request.{Request}
 use Rattle.cl_core.specs.declared.request.Request.TheVariants as request
 use Rattle.cl_core.specs.Requests.{refusal_text}
-use Rattle.cl_core.specs.Answers.{bulk_or_null, is_value, set_record, del_record}
+use Rattle.ks_space.specs.declared.entry.Entry.{Entry}
+use Rattle.ks_space.specs.declared.record.Record.{Record}
+use Rattle.ks_space.specs.declared.record.Record.TheVariants.{Set, Del}
+use Rattle.ks_space.specs.Store.{plain_string}
+use Rattle.cl_core.specs.Answers.{bulk_or_null, is_value}
 use Rattle.cl_core.specs.Machine.{Clients, Run, reply_row, group_of, up_to_quit, quits, protocol_error, asked_in, too_many_clients}
 
 -- what happens to a client: it asks something, it is told why it is shut, it is shut
@@ -87,21 +91,21 @@ abbrev pub is_among : List ℕ → List (List ℕ) → Bool
 is_among wanted keys = list_any (bytes_eq wanted) keys
 
 -- what a request makes of a key: a value, none, or nothing new
-abbrev pub made_of : Request → List ℕ → Option (Option (List ℕ))
-made_of (request.Set key value) wanted = if bytes_eq wanted key then Some (Some value) else None
+abbrev pub made_of : Request → List ℕ → Option (Option Entry)
+made_of (request.Set key value) wanted = if bytes_eq wanted key then Some (Some (plain_string value)) else None
 made_of (request.Del keys) wanted = if is_among wanted keys then Some None else None
 made_of _ wanted = None
 
-abbrev pub or_earlier : Option (Option (List ℕ)) → Option (Option (List ℕ)) → Option (Option (List ℕ))
+abbrev pub or_earlier : Option (Option Entry) → Option (Option Entry) → Option (Option Entry)
 or_earlier (Some made) earlier = Some made
 or_earlier None earlier = earlier
 
-abbrev pub last_made : List Request → List ℕ → Option (Option (List ℕ))
+abbrev pub last_made : List Request → List ℕ → Option (Option Entry)
 last_made [] wanted = None
 last_made (asked ∷ requests) wanted = or_earlier (last_made requests wanted) (made_of asked wanted)
 
 -- the value of a key behind these requests: that of its last SET, unless a DEL of it came later
-abbrev pub value_after : List Request → List ℕ → Option (List ℕ)
+abbrev pub value_after : List Request → List ℕ → Option Entry
 value_after requests wanted = unwrap_or (last_made requests wanted) None
 
 -- each of these keys once, where it stands first
@@ -124,9 +128,9 @@ reply_after before request.Quit = reply.Status (codes "OK")
 reply_after before (request.Refused why) = reply.Fault (refusal_text why)
 
 -- its effect records: a SET that changes its key's value, and a DEL for each key that had one
-abbrev pub records_after : List Request → Request → List (List (List ℕ))
-records_after before (request.Set key value) = if is_value (value_after before key) value then [] else set_record key value ∷ []
-records_after before (request.Del keys) = map del_record (held_of before keys)
+abbrev pub records_after : List Request → Request → List Record
+records_after before (request.Set key value) = if is_value (value_after before key) value then [] else Set key value ∷ []
+records_after before (request.Del keys) = map Del (held_of before keys)
 records_after before _ = []
 
 abbrev pub rows_after : List Request → List Event → List OutRow

@@ -1,9 +1,9 @@
 pub use Rattle.resp_read.specs.Frames
 pub use Rattle.resp_read.specs.Reading
+pub use Rattle.ks_space.specs.Store
 pub use Rattle.fx_log.specs.Groups
 pub mod Requests
 pub mod Answers
-pub mod Dump
 pub mod Machine
 pub mod Kept
 pub mod Reads

@@ -17,6 +17,8 @@ use Rattle.rs_outside.specs.declared.turn.What.TheVariants.{Opened, Piece, Close
 use Rattle.rs_outside.specs.declared.turn.OutRow.{OutRow}
 use Rattle.rs_outside.specs.declared.turn.OutRow.TheVariants.{Sent, Shut}
 use Rattle.fx_log.specs.declared.group.Group.{Group}
+use Rattle.ks_space.specs.declared.record.Record.{Record}
+use Rattle.ks_space.specs.contracts.entry.Entry as entry
 use Rattle.cl_core.specs.declared.request.Request.{Request}
 use Rattle.cl_core.specs.Requests.{request_of, is_quit}
 use Rattle.cl_core.specs.Answers.{Store, reply_to, store_after, records_of}
@@ -60,7 +62,7 @@ abbrev pub holding : ℕ → List ℕ → Run → Run
 holding client left run = with_clients (finite.insert run.state.clients client left) run
 
 -- what a command logs: nothing, or its records as one group, wrapped where they are more than one
-abbrev pub group_of : List (List (List ℕ)) → List Group
+abbrev pub group_of : List Record → List Group
 group_of [] = []
 group_of (one ∷ []) = record { records = one ∷ []; wrapped = false } ∷ []
 group_of (one ∷ other ∷ records) = record { records = one ∷ other ∷ records; wrapped = true } ∷ []
@@ -161,5 +163,5 @@ run_from state turns = fold with_turn (silent state) turns
 -- a state is stored as the pair of its parts
 abbrev pub state_code : Coded State
 state_code =
-    code_by (Store × (Clients × ℕ)) (coded× (finite.code (coded_list coded_ℕ) (coded_list coded_ℕ)) (coded× (finite.code coded_ℕ (coded_list coded_ℕ)) coded_ℕ))
+    code_by (Store × (Clients × ℕ)) (coded× (finite.code (coded_list coded_ℕ) entry.the_row.coded) (coded× (finite.code coded_ℕ (coded_list coded_ℕ)) coded_ℕ))
     (λ s. (s.store, (s.clients, s.time))) (λ p. record { store = p.0; clients = p.1.0; time = p.1.1 }) (λ _. refl)

@@ -2,11 +2,13 @@ ghost use Rattle.std.specs.Prelude.{◌≡◌, ◌++◌, map, fold, OnOk, IfOk};
 ghost use Rattle.std.specs.FinMap as finite;
 ghost use Rattle.cl_core.specs.declared.request.Request.{Request};
 ghost use Rattle.cl_core.specs.Requests.{refusal_text};
-ghost use Rattle.cl_core.specs.Answers.{bulk_or_null, reply_to, store_after, records_of, removed, is_value, set_record, del_record};
+ghost use Rattle.ks_space.specs.declared.record.Record.{Record};
+ghost use Rattle.ks_space.specs.Store.{plain_string};
+ghost use Rattle.cl_core.specs.Answers.{bulk_or_null, reply_to, store_after, records_of, removed, is_value, is_plain};
 
-use crate::store::Store;
 use crate::{Refusal, Request};
 use fx_log::Effects;
+use ks_space::{Entry, Record, Space, Value};
 use resp_reply::Reply;
 use rs_base::{Bytes, NoMemory, Words};
 use std::alloc::Global;
@@ -15,7 +17,7 @@ use std::collections::VecDeque;
 /// Carries out a request on a store: answers it, and adds its records.
 pub fn answer(
     alloc: Global,
-    store: &mut Store,
+    store: &mut Space,
     request: Request,
     records: &mut Effects,
 ) -> Result<Reply, NoMemory>
@@ -56,7 +58,7 @@ fn refuse(alloc: Global, why: &Refusal) -> Result<Reply, NoMemory>
 
 fn set(
     alloc: Global,
-    store: &mut Store,
+    store: &mut Space,
     key: Bytes,
     value: Bytes,
     records: &mut Effects,
@@ -66,44 +68,60 @@ fn set(
     ensures records { OnOk result (records.new ≡ records.old ++ records_of store.old (Request.Set key value)) }
 {
     if !has_value(store, &key, &value) {
-        records.push(set_words(alloc, &key, &value)?)?;
+        let record = Record::Set {
+            key: key.clone()?,
+            value: value.clone()?,
+        };
+        records.push(record)?;
     }
-    store.set(key, value)?;
+    store.put(key, plain_string(value))?;
     Reply::status(alloc, b"OK")
 }
 
-// Whether the key has this value.
-fn has_value(store: &Store, key: &Bytes, value: &Bytes) -> bool
+fn plain_string(value: Bytes) -> Entry
+    ensures { result ≡ plain_string value }
+{
+    Entry {
+        value: Value::Str(value),
+        deadline: None,
+    }
+}
+
+// Whether the key has this string, without a deadline.
+fn has_value(store: &Space, key: &Bytes, value: &Bytes) -> bool
     ensures { result ≡ is_value (finite.get store.now key.now) value.now }
 {
-    match store.get(key) {
-        Some(old) => old == value,
+    match store.get(key.as_slice()) {
+        Some(entry) => is_plain(entry, value),
         None => false,
     }
 }
 
-fn set_words(alloc: Global, key: &Bytes, value: &Bytes) -> Result<Words, NoMemory>
-    ensures { IfOk result (λ words. words ≡ set_record key.now value.now) }
+fn is_plain(entry: &Entry, value: &Bytes) -> bool
+    ensures { result ≡ is_plain entry.now.value entry.now.deadline value.now }
 {
-    let mut words = Words::new(alloc);
-    words.push(Bytes::from_slice(alloc, b"SET")?)?;
-    words.push(key.clone()?)?;
-    words.push(value.clone()?)?;
-    Ok(words)
+    let Value::Str(old) = &entry.value;
+    match entry.deadline {
+        Some(_) => false,
+        None => old == value,
+    }
 }
 
-fn get(alloc: Global, store: &Store, key: &Bytes) -> Result<Reply, NoMemory>
+fn get(alloc: Global, store: &Space, key: &Bytes) -> Result<Reply, NoMemory>
     ensures { IfOk result (λ reply. reply ≡ bulk_or_null (finite.get store.now key.now)) }
 {
-    match store.get(key) {
-        Some(value) => Reply::bulk(alloc, value.as_slice()),
+    match store.get(key.as_slice()) {
+        Some(entry) => {
+            let Value::Str(bytes) = &entry.value;
+            Reply::bulk(alloc, bytes.as_slice())
+        }
         None => Ok(Reply::NullBulk),
     }
 }
 
 fn del(
     alloc: Global,
-    store: &mut Store,
+    store: &mut Space,
     keys: Words,
     records: &mut Effects,
 ) -> Result<Reply, NoMemory>
@@ -113,19 +131,19 @@ fn del(
 {
     let gone = remove_all(alloc, store, keys)?;
     let count = gone.len() as i64;
-    record_all(alloc, gone, records)?;
+    record_all(gone, records)?;
     Ok(Reply::Int(count))
 }
 
 // Removes keys one by one. Answers those that were there.
-fn remove_all(alloc: Global, store: &mut Store, keys: Words) -> Result<Words, NoMemory>
+fn remove_all(alloc: Global, store: &mut Space, keys: Words) -> Result<Words, NoMemory>
     ensures gone { IfOk result (λ gone. gone ≡ removed store.old keys) }
     ensures store { OnOk result (store.new ≡ fold finite.remove store.old keys) }
 {
     let mut gone = Words::new(alloc);
     let mut left = VecDeque::from_vec(keys.into_vec());
     while let Some(key) = left.pop_front() {
-        if store.remove(&key) {
+        if store.take(key.as_slice())?.is_some() {
             gone.push(key)?;
         }
     }
@@ -133,21 +151,12 @@ fn remove_all(alloc: Global, store: &mut Store, keys: Words) -> Result<Words, No
 }
 
 // Adds a record DEL for each key.
-fn record_all(alloc: Global, keys: Words, records: &mut Effects) -> Result<(), NoMemory>
-    ensures { OnOk result (records.new ≡ records.old ++ map del_record keys) }
+fn record_all(keys: Words, records: &mut Effects) -> Result<(), NoMemory>
+    ensures { OnOk result (records.new ≡ records.old ++ map Record.Del keys) }
 {
     let mut left = VecDeque::from_vec(keys.into_vec());
     while let Some(key) = left.pop_front() {
-        records.push(del_words(alloc, key)?)?;
+        records.push(Record::Del { key })?;
     }
     Ok(())
-}
-
-fn del_words(alloc: Global, key: Bytes) -> Result<Words, NoMemory>
-    ensures { IfOk result (λ words. words ≡ del_record key) }
-{
-    let mut words = Words::new(alloc);
-    words.push(Bytes::from_slice(alloc, b"DEL")?)?;
-    words.push(key)?;
-    Ok(words)
 }

@@ -1,4 +1,9 @@
 ghost use Rattle.std.specs.Prelude.{◌≡◌, ◌++◌, ℕ, ◌≤◌, List};
+ghost use Rattle.std.specs.Prelude.{fold};
+ghost use Rattle.std.specs.List.{AllByRecursion};
+ghost use Rattle.ks_space.specs.Store.{apply};
+ghost use Rattle.fx_log.specs.Groups.{IsGroup};
+ghost use Rattle.fx_log.specs.Dump.{records_in};
 ghost use Rattle.rs_outside.specs.declared.turn.Turn.{Turn};
 ghost use Rattle.rs_outside.specs.declared.turn.What.TheVariants.{Piece};
 ghost use Rattle.cl_core.specs.Machine.{State, Run, beginning, step, with_turn, run_from};
@@ -33,3 +38,12 @@ pub fn cutting_is_free()
 pub fn store_follows_history()
     ensures { (turns : List Turn) → IsHistory (run_from beginning turns) turns }
 {}
+
+/// The law of the log: the groups of any turns from any state lead from its store to theirs, record by record, and each can
+/// be written and read back: it has a record or more, and exactly one where it is not wrapped, within the limits of commands.
+pub fn log_gives_the_store()
+    ensures leads { (state : State) (turns : List Turn) → (run_from state turns).state.store ≡ fold apply state.store (records_in (run_from state turns).groups) }
+    ensures groups { (state : State) (turns : List Turn) → AllByRecursion IsGroup (run_from state turns).groups }
+{
+    reading_is_the_grammar();
+}

@@ -7,11 +7,10 @@ mod client;
 mod laws;
 mod request;
 mod server;
-mod store;
 #[cfg(test)]
 mod tests;
 
 pub use client::MAX_CLIENTS;
-pub use laws::{cutting_is_free, store_follows_history, turns_keep_validity};
+pub use laws::{cutting_is_free, log_gives_the_store, store_follows_history, turns_keep_validity};
 pub use request::{CommandName, Refusal, Request};
 pub use server::Server;

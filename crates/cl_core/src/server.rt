@@ -3,7 +3,6 @@ ghost use Rattle.std.specs.FinMap as finite;
 ghost use Rattle.resp_reply.specs.Replies.{reply_text};
 ghost use Rattle.cl_core.specs.declared.request.Request.{Request};
 ghost use Rattle.cl_core.specs.Requests.{request_of};
-ghost use Rattle.cl_core.specs.Dump.{dump};
 ghost use Rattle.rs_outside.specs.declared.turn.Go.{Go};
 ghost use Rattle.rs_outside.specs.declared.turn.OutRow.{OutRow};
 ghost use Rattle.fx_log.specs.declared.group.Group.{Group};
@@ -13,8 +12,8 @@ use crate::Request;
 use crate::answering::answer;
 use crate::client::{Client, Clients, Fed, MAX_CLIENTS};
 use crate::laws::turns_keep_validity;
-use crate::store::Store;
 use fx_log::{Effects, Group, Groups};
+use ks_space::Space;
 use resp_read::{BadFrame, Commands};
 use resp_reply::{Reply, put};
 use rs_base::{Bytes, NoMemory};
@@ -27,7 +26,7 @@ use std::marker::Model;
 #[derive(Drop)]
 pub struct Server {
     alloc: Global,
-    store: Store,
+    store: Space,
     clients: Clients,
     time: u64,
 }
@@ -54,7 +53,7 @@ impl Server {
     {
         Server {
             alloc,
-            store: Store::new(alloc),
+            store: Space::new(alloc),
             clients: Clients::new(alloc),
             time: 0,
         }
@@ -104,18 +103,11 @@ impl Server {
         }
     }
 
-    /// Adds the dump of the store: `KEY string - VALUE` for each key in the order of the keys' bytes, escaped.
-    pub fn dump(&self, out: &mut Bytes) -> Result<(), NoMemory>
-        ensures { OnOk result (out.new ≡ out.old ++ dump self.now.store) }
+    /// The store.
+    pub fn space(&self) -> &Space
+        ensures { result.now ≡ self.now.store }
     {
-        self.store.put_dump(out)
-    }
-
-    /// How many keys the store has.
-    pub fn keys(&self) -> usize
-        ensures { result ≡ finite.len self.now.store }
-    {
-        self.store.len()
+        &self.store
     }
 
     // Opens a client, or refuses it where the most are open.

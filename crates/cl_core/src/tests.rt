@@ -1,7 +1,7 @@
 use crate::Request;
 use crate::answering::answer;
-use crate::store::Store;
 use fx_log::Effects;
+use ks_space::Space;
 use resp_reply::put;
 use rs_base::{Bytes, NoMemory, Words, unescape};
 use std::alloc::Global;
@@ -20,7 +20,7 @@ fn words_of(alloc: Global, text: &[u8]) -> Result<Words, NoMemory> {
 fn told_records(alloc: Global, records: &Effects) -> Result<Bytes, NoMemory> {
     let mut text = Bytes::new(alloc);
     for record in records.as_slice() {
-        for word in record.as_slice() {
+        for word in record.to_words(alloc)?.as_slice() {
             text.append(word.as_slice())?;
             text.push(b' ')?;
         }
@@ -30,7 +30,7 @@ fn told_records(alloc: Global, records: &Effects) -> Result<Bytes, NoMemory> {
 }
 
 // Answers a request: its reply's bytes, and its records.
-fn answered(alloc: Global, store: &mut Store, words: Words) -> Result<(Bytes, Bytes), NoMemory> {
+fn answered(alloc: Global, store: &mut Space, words: Words) -> Result<(Bytes, Bytes), NoMemory> {
     let mut records = Effects::new(alloc);
     let request = Request::from_words(alloc, words)?;
     let reply = answer(alloc, store, request, &mut records)?;
@@ -81,7 +81,7 @@ a\r\nb -ERR\sunknown\scommand\s'a\s\sb'\r\n \e
 #[test]
 fn answers_requests(rt: HostRuntime) -> Result<(), Fail> {
     let alloc = rt.alloc();
-    let mut store = Store::new(alloc);
+    let mut store = Space::new(alloc);
     for line in requests().split(|byte| *byte == b'\n') {
         let mut fields = line.split(|byte| *byte == b' ');
         let words = field(alloc, fields.next())?;
@@ -111,7 +111,7 @@ fn cuts_long_names(rt: HostRuntime) -> Result<(), Fail> {
     spelled.append(b"'\r\n")?;
     let mut words = Words::new(alloc);
     words.push(name)?;
-    let mut store = Store::new(alloc);
+    let mut store = Space::new(alloc);
     let (bytes, _records) = answered(alloc, &mut store, words)?;
     assert_eq!(rt; bytes, spelled);
     Ok(())

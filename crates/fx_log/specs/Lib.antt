@@ -1,2 +1,10 @@
 pub use Rattle.resp_read.specs.Frames
+pub use Rattle.ks_space.specs.RecordWords
+pub use Rattle.ks_space.specs.Store
+pub mod Dump
+pub mod Entries
 pub mod Groups
+pub mod Items
+pub mod Logs
+pub mod Reading
+pub mod Standing

@@ -1,11 +1,9 @@
 ghost use Rattle.std.specs.Prelude.{◌≡◌, ◌++◌, OnOk};
 ghost use Rattle.fx_log.specs.Groups.{group_text, records_text};
 
-use crate::frames::{write_frame, write_single};
-use rs_base::{Bytes, NoMemory, Seq, Words};
-
-/// Effect records in order, each a list of words.
-pub type Effects = Seq<Words>;
+use crate::frames::{write_record, write_single};
+use ks_space::Effects;
+use rs_base::{Bytes, NoMemory, Seq};
 
 /// What one command did: its records in order, and whether they stand between MULTI and EXEC in the log.
 #[derive(Debug, Drop, PartialEq, Eq)]
@@ -35,7 +33,7 @@ fn write_records(records: &Effects, out: &mut Bytes) -> Result<(), NoMemory>
     ensures { OnOk result (out.new ≡ out.old ++ records_text records.now) }
 {
     for record in records.as_slice() {
-        write_frame(record, out)?;
+        write_record(record, out)?;
     }
     Ok(())
 }

@@ -1,10 +1,9 @@
 -- Reading a source piece by piece.
-use Rattle.std.proofs.Common.{◌≡◌, ℕ, ◌+◌, ◌<◌, ◌≤◌, List, [], ◌++◌, Option, Some, None, length, refl, sym, ap, ◌∙◌, arith, append_assoc, append-nil, length-append}
+use Rattle.std.proofs.Common.{◌≡◌, ℕ, ◌≤◌, List, [], ◌++◌, Option, Some, None, length, refl, sym, ap, ◌∙◌, arith, append_assoc, append-nil, length-append}
 use Rattle.rs_outside.specs.Known.{items_then, NoneLeft}
-use Rattle.redscript.specs.declared.reading.TheConstants.{MAX_INPUT_BYTES}
 use Rattle.rs_outside.specs.declared.status.Status.{Status}
-use Rattle.rs_outside.specs.declared.status.Status.TheVariants.{Done, Usage, BadInput, SourceFault, SinkFault, LogFault, WireFault, TurnsSpent, NoMemory, InputTooLong}
-use Rattle.redscript.specs.Input.{HasReadAll, PassesLimit, StopsReading, StopsPiece}
+use Rattle.rs_outside.specs.declared.status.Status.TheVariants.{Done, Usage, BadInput, BadLog, SourceFault, SinkFault, LogFault, WireFault, TurnsSpent, NoMemory, InputTooLong}
+use Rattle.redscript.specs.Input.{StopsReading, StopsPiece}
 
 pub items_then-items_then : (xs ys : List ℕ) (known : Option (List ℕ)) → items_then xs (items_then ys known) ≡ items_then (xs ++ ys) known
 items_then-items_then xs ys None = refl
@@ -34,6 +33,7 @@ pub StopsReading-from_piece : (input input' : Option (List ℕ)) (rose rose' : T
 StopsReading-from_piece input input' rose rose' Done weaker h = h
 StopsReading-from_piece input input' rose rose' Usage weaker h = h
 StopsReading-from_piece input input' rose rose' (BadInput line) weaker h = h
+StopsReading-from_piece input input' rose rose' (BadLog place) weaker h = h
 StopsReading-from_piece input input' rose rose' SourceFault weaker h = weaker h
 StopsReading-from_piece input input' rose rose' SinkFault weaker h = h
 StopsReading-from_piece input input' rose rose' LogFault weaker h = h

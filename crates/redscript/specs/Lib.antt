@@ -3,7 +3,13 @@ pub use Rattle.cl_core.specs.Machine
 pub use Rattle.srv_loop.specs.Runs
 pub use Rattle.srv_loop.specs.Transcript
 pub use Rattle.srv_loop.specs.Play
+pub use Rattle.fx_log.specs.Logs
+pub use Rattle.fx_log.specs.Standing
+pub use Rattle.fx_log.specs.Dump
+pub use Rattle.ks_space.specs.Store
 pub use Rattle.rs_outside.specs.Faults
 pub use Rattle.rs_outside.specs.Known
+pub mod Forms
 pub mod Input
+pub mod Replay
 pub mod Run

@@ -5,11 +5,13 @@ use std::env::Args;
 
 /// What `--help` answers.
 pub const HELP: &str = "\
-redscript plays recorded sessions of Redis clients.
+redscript plays recorded sessions of Redis clients, and replays their effect logs.
 
 Usage:
   redscript play LOG    plays the session on standard input, writes its transcript
                         to standard output and its effect log to the new file LOG
+  redscript replay      replays the effect log on standard input, and writes the store
+                        that it leads to to standard output
   redscript --help      writes this text
   redscript --version   writes the version";
 

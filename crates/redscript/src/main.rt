@@ -1,9 +1,12 @@
-//! redscript: plays recorded sessions of Redis clients against a store of its own, and writes what was sent and logged.
+//! redscript: plays recorded sessions of Redis clients against a store of its own, and writes what was sent and logged; and
+//! replays such a log.
 #![tactic(auto)]
 
 mod command_line;
+mod forms;
 mod outside;
 mod reading;
+mod replaying;
 mod running;
 #[cfg(test)]
 mod tests;

@@ -11,7 +11,8 @@ use std::alloc::Global;
 /// The most bytes that the input of `play` may have.
 pub const MAX_INPUT_BYTES: u64 = 268_435_456;
 
-const BUFFER_BYTES: usize = 65_536;
+/// How many bytes are asked of a source at a time.
+pub const BUFFER_BYTES: usize = 65_536;
 
 /// Reads a source to its end, or past the limit.
 pub fn read_all<S: Source>(alloc: Global, input: &mut S) -> Result<Bytes, Status>
@@ -31,7 +32,8 @@ pub fn read_all<S: Source>(alloc: Global, input: &mut S) -> Result<Bytes, Status
     })
 }
 
-fn zeros(alloc: Global, len: usize) -> Result<Vec<u8>, NoMemory>
+/// This many zeros.
+pub fn zeros(alloc: Global, len: usize) -> Result<Vec<u8>, NoMemory>
     ensures { IfOk result (λ bytes. vec_len bytes ≡ len) }
 {
     Ok(vec![in alloc; 0u8; len]?)

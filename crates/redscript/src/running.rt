@@ -1,12 +1,17 @@
-ghost use Rattle.std.specs.Prelude.{◌≡◌, ◌⊎◌, ◌↔◌, ◌<◌, ◌≤◌, ℕ, List, ◌∷◌, [], length, Some, IfSome, IsSomeAnd};
+ghost use Rattle.std.specs.Prelude.{◌≡◌, ◌⊎◌, ◌↔◌, ◌<◌, ◌≤◌, ℕ, List, length, Some};
 ghost use Rattle.rs_outside.specs.Faults.{Rose};
 ghost use Rattle.rs_outside.specs.declared.status.Status.{Status};
 ghost use Rattle.rs_outside.specs.declared.turn.Turn.{Turn};
 ghost use Rattle.srv_loop.specs.Session.{IsSession, IsBadLine};
+ghost use Rattle.fx_log.specs.declared.stops.LogKind.{LogKind};
+ghost use Rattle.fx_log.specs.Logs.{IsBadLog, HasBadPlace};
 ghost use Rattle.redscript.specs.declared.reading.TheConstants.{MAX_INPUT_BYTES};
-ghost use Rattle.redscript.specs.Run.{IsPlay, PlaysToEnd, FindsBad, PassesLimit, IsRefusal, StopsRun};
+ghost use Rattle.redscript.specs.declared.replaying.TheConstants.{MAX_LOG_BYTES};
+ghost use Rattle.redscript.specs.Run.{IsPlay, IsReplay, HasNoForm, PlaysToEnd, ReplaysToEnd, FindsBad, FindsBadLog, PassesLimit, PassesLogLimit, IsRefusal, IsRunStatus, StopsRun, up_to_limit};
 
+use crate::forms::{Form, form_of};
 use crate::reading::read_all;
+use crate::replaying::replay;
 use rs_base::Words;
 use rs_outside::{Log, Sink, Source, Status, Wire};
 use srv_loop::play;
@@ -14,9 +19,12 @@ use std::alloc::Global;
 
 /// Runs the program on the words of its command line, without its own name.
 ///
-/// The one form is `play LOG`, where LOG is not empty: it reads a session from `input` to its end, judges all of its
-/// lines, begins the log under the name LOG, takes the turns, and writes each one's bytes to `log` and then its lines
-/// of the transcript to `out`, and at last the count of turns, keys and log bytes and the dump of the store.
+/// `play LOG`, where LOG is not empty, reads a session from `input` to its end, judges all of its lines, begins the log
+/// under the name LOG, takes the turns, and writes each one's bytes to `log` and then its lines of the transcript to
+/// `out`, and at last the count of turns, keys and log bytes and the dump of the store.
+///
+/// `replay` reads an effect log from `input` to its end, carries out its whole groups on an empty store, and writes to
+/// `out` the count of groups and keys and the dump of the store. It calls nothing of `log`.
 pub fn run<W: Wire, S: Source, O: Sink, L: Log>(
     alloc: Global,
     words: &Words,
@@ -25,18 +33,27 @@ pub fn run<W: Wire, S: Source, O: Sink, L: Log>(
     out: &mut O,
     log: &mut L,
 ) -> Status
-    // The input was read to its end and is a session; the log has the bytes of its turns, the output their transcript.
+    // The input was read to its end. For `play` it is a session; the log has the bytes of its turns, the output their
+    // transcript. For `replay` it is a log, and the output has the count and the store of its groups.
     ensures done { result ≡ Status.Done → PlaysToEnd words.now (S.left input.old) (S.left input.new)
-        (L.begun log.old) (L.begun log.new) (L.taken log.old) (L.taken log.new) (O.taken out.old) (O.taken out.new) }
+        (L.begun log.old) (L.begun log.new) (L.taken log.old) (L.taken log.new) (O.taken out.old) (O.taken out.new)
+        ⊎ ReplaysToEnd words.now (S.left input.old) (S.left input.new) (O.taken out.old) (O.taken out.new) }
 
     // The words are no command line of the program, exactly then, and nothing was touched.
-    ensures usage { (result ≡ Status.Usage) ↔ ((name : List ℕ) → IsPlay words.now name → ⊥) }
+    ensures usage { (result ≡ Status.Usage) ↔ HasNoForm words.now }
     ensures usage_keeps { result ≡ Status.Usage → (input.new ≡ input.old) × (out.new ≡ out.old) × (log.new ≡ log.old) }
 
-    // The input was read to its end, and this line is the first that is no session line.
-    ensures bad_input { (line : ℕ) → result ≡ Status.BadInput line → FindsBad (S.left input.old) (S.left input.new) line }
-    ensures too_long { (bytes : ℕ) → result ≡ Status.InputTooLong bytes → (bytes ≡ MAX_INPUT_BYTES) × PassesLimit (S.left input.old) (S.left input.new) }
+    // The input of `play` was read to its end, and this line is the first that is no session line; that of `replay` has
+    // its first bad place here.
+    ensures bad_input { (line : ℕ) → result ≡ Status.BadInput line → FindsBad words.now (S.left input.old) (S.left input.new) line }
+    ensures bad_log { (place : ℕ) → result ≡ Status.BadLog place → IsReplay words.now × FindsBadLog (S.left input.old) (S.left input.new) place }
+    ensures too_long { (bytes : ℕ) → result ≡ Status.InputTooLong bytes
+        → ((name : List ℕ) × IsPlay words.now name × (bytes ≡ MAX_INPUT_BYTES) × PassesLimit (S.left input.old) (S.left input.new))
+        ⊎ (IsReplay words.now × (bytes ≡ MAX_LOG_BYTES) × PassesLogLimit (S.left input.old) (S.left input.new)) }
     ensures refused_keeps { IsRefusal result → (log.new ≡ log.old) × (out.new ≡ out.old) }
+
+    // The wire is not asked, so none of its statuses is answered.
+    ensures others { IsRunStatus result }
 
     // A fault is answered only where that object's count rose in this call.
     ensures source_fault { result ≡ Status.SourceFault → Rose (S.faults input.old) (S.faults input.new) }
@@ -58,32 +75,34 @@ pub fn run<W: Wire, S: Source, O: Sink, L: Log>(
         → MAX_INPUT_BYTES < length text
         → (result ≡ Status.InputTooLong MAX_INPUT_BYTES) ⊎ (result ≡ Status.NoMemory) ⊎ Rose (S.faults input.old) (S.faults input.new) }
 
-    // Wherever the run ended: nothing was begun or taken, or the input was read to its end and its play stopped somewhere.
+    // The same for `replay`, of which a bad place up to the limit comes before the limit.
+    ensures replays_log { (text : List ℕ) → S.left input.old ≡ Some text → IsReplay words.now
+        → length text ≤ MAX_LOG_BYTES → (HasBadPlace text → ⊥)
+        → (result ≡ Status.Done) ⊎ (result ≡ Status.NoMemory) ⊎ Rose (S.faults input.old) (S.faults input.new)
+        ⊎ Rose (O.faults out.old) (O.faults out.new) }
+    ensures finds_bad_log { (text : List ℕ) (place : ℕ) (kind : LogKind) → S.left input.old ≡ Some text → IsReplay words.now
+        → IsBadLog (up_to_limit text) place kind
+        → (result ≡ Status.BadLog place) ⊎ (result ≡ Status.NoMemory) ⊎ Rose (S.faults input.old) (S.faults input.new) }
+    ensures keeps_log_limit { (text : List ℕ) → S.left input.old ≡ Some text → IsReplay words.now
+        → MAX_LOG_BYTES < length text → (HasBadPlace (up_to_limit text) → ⊥)
+        → (result ≡ Status.InputTooLong MAX_LOG_BYTES) ⊎ (result ≡ Status.NoMemory) ⊎ Rose (S.faults input.old) (S.faults input.new) }
+
+    // Wherever the run ended: nothing was begun or taken, or the input was read to its end and what is written of it was
+    // written up to somewhere.
     ensures anywhere { StopsRun words.now (S.left input.old) (S.left input.new)
         (L.begun log.old) (L.begun log.new) (L.taken log.old) (L.taken log.new) (O.taken out.old) (O.taken out.new) }
     ensures wire { wire.new ≡ wire.old }
+    ensures replay_keeps_log { IsReplay words.now → log.new ≡ log.old }
 {
-    let Some(name) = play_name(words) else {
-        return Status::Usage;
-    };
-    let session = match read_all(alloc, input) {
-        Ok(session) => session,
-        Err(status) => return status,
-    };
-    play(alloc, &session, name, out, log)
-}
-
-// The log's name in the words `play LOG`.
-fn play_name(words: &Words) -> Option<&[u8]>
-    ensures found { IfSome result (λ name. IsPlay words.now name.now) }
-    ensures only { (name : List ℕ) → IsPlay words.now name → IsSomeAnd result (λ x. x.now ≡ name) }
-{
-    let [command, name] = words.as_slice() else {
-        return None;
-    };
-    if command.as_slice() == b"play".as_slice() && !name.is_empty() {
-        Some(name.as_slice())
-    } else {
-        None
+    match form_of(words) {
+        None => Status::Usage,
+        Some(Form::Play(name)) => {
+            let session = match read_all(alloc, input) {
+                Ok(session) => session,
+                Err(status) => return status,
+            };
+            play(alloc, &session, name, out, log)
+        }
+        Some(Form::Replay) => replay(alloc, input, out),
     }
 }

@@ -252,7 +252,16 @@ fn refuses_command_lines(rt: HostRuntime) -> Result<(), Fail> {
         Status::Usage,
     )?;
     let three = [b"play".as_slice(), b"x".as_slice(), b"y".as_slice()];
-    refuses(&rt, rt.alloc(), &three, SESSION, Status::Usage)
+    refuses(&rt, rt.alloc(), &three, SESSION, Status::Usage)?;
+    let replay_of = [b"replay".as_slice(), b"x".as_slice()];
+    refuses(&rt, rt.alloc(), &replay_of, LOGGED, Status::Usage)?;
+    refuses(
+        &rt,
+        rt.alloc(),
+        &[b"Replay".as_slice()],
+        LOGGED,
+        Status::Usage,
+    )
 }
 
 #[test]
@@ -332,9 +341,12 @@ fn names_what_failed(rt: HostRuntime) -> Result<(), Fail> {
     let alloc = rt.alloc();
     let mut out = SureSink::new(alloc);
     let mut log = SureLog::new(alloc);
-    let status = status_of(alloc, &mut Broken::new(true), &mut out, &mut log)?;
+    let mut source = Broken::new(true);
+    let status = status_of(alloc, &mut source, &mut out, &mut log)?;
     assert_eq!(rt; status, Status::SourceFault);
     assert!(rt; log.begun().is_empty());
+    // A read that failed is not tried again.
+    assert_eq!(rt; source.faults, 1);
 
     let mut input = SureSource::new(Bytes::from_slice(alloc, SESSION)?);
     let status = status_of(alloc, &mut input, &mut Broken::new(true), &mut log)?;
@@ -347,5 +359,132 @@ fn names_what_failed(rt: HostRuntime) -> Result<(), Fail> {
         assert_eq!(rt; status, Status::LogFault);
         assert!(rt; out.taken().is_empty());
     }
+    Ok(())
+}
+
+// A log is replayed: this is what is written, and the log of the run is left alone.
+fn replays(rt: &impl Abort, alloc: Global, log: &[u8], text: &[u8]) -> Result<(), Fail> {
+    let ran = run_of(alloc, &[b"replay".as_slice()], log)?;
+    assert_eq!(rt; ran.status, Status::Done);
+    assert_eq!(rt; ran.out.taken().as_slice(), text);
+    assert!(rt; ran.log.taken().is_empty());
+    assert!(rt; ran.log.begun().is_empty());
+    Ok(())
+}
+
+// MULTI, SET a 1, SET b 2, EXEC.
+const GROUP: &[u8] =
+    b"*1\r\n$5\r\nMULTI\r\n*3\r\n$3\r\nSET\r\n$1\r\na\r\n$1\r\n1\r\n*3\r\n$3\r\nSET\r\n$1\r\nb\r\n$1\r\n2\r\n*1\r\n$4\r\nEXEC\r\n";
+
+#[test]
+fn replays_cut_logs(rt: HostRuntime) -> Result<(), Fail> {
+    assert_eq!(rt; GROUP.len(), 83);
+    for at in 0..GROUP.len() {
+        let (front, _) = GROUP.split_at(at);
+        replays(&rt, rt.alloc(), front, b"end groups=0 keys=0\n")?;
+    }
+    replays(
+        &rt,
+        rt.alloc(),
+        GROUP,
+        b"end groups=1 keys=2\na string - 1\nb string - 2\n",
+    )
+}
+
+#[test]
+fn refuses_logs(rt: HostRuntime) -> Result<(), Fail> {
+    let replay = [b"replay".as_slice()];
+    let (front, back) = GROUP.split_at(15);
+    let (_, behind) = back.split_at(1);
+    let mut turned = Bytes::from_slice(rt.alloc(), front)?;
+    turned.append(b"+")?;
+    turned.append(behind)?;
+    let rows = [
+        (turned.as_slice(), 15),
+        // EXEC where no group is open, and MULTI where one is.
+        (b"*1\r\n$4\r\nEXEC\r\n".as_slice(), 0),
+        (b"*1\r\n$5\r\nMULTI\r\n*1\r\n$5\r\nMULTI\r\n".as_slice(), 15),
+        // No record, behind an empty array.
+        (b"*0\r\n*1\r\n$4\r\nPING\r\n".as_slice(), 4),
+        // A whole group does not help a bad byte behind it.
+        (b"*2\r\n$3\r\nDEL\r\n$1\r\nk\r\n!".as_slice(), 20),
+    ];
+    for (log, place) in rows {
+        refuses(&rt, rt.alloc(), &replay, log, Status::BadLog { place })?;
+    }
+    Ok(())
+}
+
+// A session is played, and its log is replayed: both end with this dump.
+fn replays_played(
+    rt: &impl Abort,
+    alloc: Global,
+    session: &[u8],
+    played: &[u8],
+    replayed: &[u8],
+    dump: &[u8],
+) -> Result<(), Fail> {
+    let mut transcript = Bytes::from_slice(alloc, played)?;
+    transcript.append(dump)?;
+    let ran = run_of(alloc, &[b"play".as_slice(), b"x.log".as_slice()], session)?;
+    assert_eq!(rt; ran.status, Status::Done);
+    assert_eq!(rt; ran.out.taken().as_slice(), transcript.as_slice());
+    let mut text = Bytes::from_slice(alloc, replayed)?;
+    text.append(dump)?;
+    replays(rt, alloc, ran.log.taken().as_slice(), text.as_slice())
+}
+
+#[test]
+fn replays_what_was_played(rt: HostRuntime) -> Result<(), Fail> {
+    let alloc = rt.alloc();
+    replays_played(
+        &rt,
+        alloc,
+        b"",
+        b"end turns=0 keys=0 log=0\n",
+        b"end groups=0 keys=0\n",
+        b"",
+    )?;
+    replays_played(
+        &rt,
+        alloc,
+        SESSION,
+        b"1 send +OK\\r\\n\n1 send $1\\r\\nv\\r\\n\nend turns=2 keys=1 log=27\n",
+        b"end groups=1 keys=1\n",
+        b"k string - v\n",
+    )?;
+    // Three keys, one of them empty; then one of them and one that is not there are deleted.
+    replays_played(
+        &rt,
+        alloc,
+        b"1 0 1 opened\n1 0 1 piece *3\\r\\n$3\\r\\nSET\\r\\n$1\\r\\nb\\r\\n$1\\r\\n1\\r\\n*3\\r\\n$3\\r\\nSET\\r\\n$1\\r\\na\\r\\n$1\\r\\n2\\r\\n*3\\r\\n$3\\r\\nSET\\r\\n$1\\r\\nc\\r\\n$0\\r\\n\\r\\n*3\\r\\n$3\\r\\nDEL\\r\\n$1\\r\\nb\\r\\n$1\\r\\nd\\r\\n\n",
+        b"1 send +OK\\r\\n\n1 send +OK\\r\\n\n1 send +OK\\r\\n\n1 send :1\\r\\n\nend turns=2 keys=2 log=100\n",
+        b"end groups=4 keys=2\n",
+        b"a string - 2\nc string - \\e\n",
+    )
+}
+
+#[test]
+fn names_what_failed_in_a_replay(rt: HostRuntime) -> Result<(), Fail> {
+    let alloc = rt.alloc();
+    let mut line = Words::new(alloc);
+    line.push(Bytes::from_slice(alloc, b"replay")?)?;
+    let mut wire = SureWire::new(alloc, Turns::new(alloc));
+    let mut out = SureSink::new(alloc);
+    let mut log = Broken::new(false);
+    let mut source = Broken::new(true);
+    let status = run(alloc, &line, &mut wire, &mut source, &mut out, &mut log);
+    assert_eq!(rt; status, Status::SourceFault);
+    assert!(rt; out.taken().is_empty());
+
+    // A log that fails is not asked.
+    let mut input = SureSource::new(Bytes::from_slice(alloc, LOGGED)?);
+    let status = run(alloc, &line, &mut wire, &mut input, &mut out, &mut log);
+    assert_eq!(rt; status, Status::Done);
+
+    let mut input = SureSource::new(Bytes::from_slice(alloc, LOGGED)?);
+    let mut sink = Broken::new(true);
+    let status = run(alloc, &line, &mut wire, &mut input, &mut sink, &mut log);
+    assert_eq!(rt; status, Status::SinkFault);
     Ok(())
 }

@@ -1,12 +1,13 @@
 -- The exit codes of the program.
 use Rattle.std.specs.Prelude.{ℕ}
 use Rattle.rs_outside.specs.declared.status.Status.{Status}
-use Rattle.rs_outside.specs.declared.status.Status.TheVariants.{Done, Usage, BadInput, SourceFault, SinkFault, LogFault, WireFault, TurnsSpent, NoMemory, InputTooLong}
+use Rattle.rs_outside.specs.declared.status.Status.TheVariants.{Done, Usage, BadInput, BadLog, SourceFault, SinkFault, LogFault, WireFault, TurnsSpent, NoMemory, InputTooLong}
 
 abbrev pub code_of : Status → ℕ
 code_of Done = 0
 code_of Usage = 2
 code_of (BadInput line) = 3
+code_of (BadLog place) = 4
 code_of SourceFault = 5
 code_of SinkFault = 6
 code_of LogFault = 7

@@ -10,6 +10,8 @@ pub enum Status {
     Usage,
     /// This line of a session, counted from 1, is the first that is no session line. Nothing was written.
     BadInput { line: u64 },
+    /// At this byte, counted from 0, the input of `replay` is no log any longer. Nothing was written.
+    BadLog { place: u64 },
     /// The input failed.
     SourceFault,
     /// The output failed.
@@ -49,6 +51,7 @@ impl Status {
             Status::Done => 0,
             Status::Usage => 2,
             Status::BadInput { .. } => 3,
+            Status::BadLog { .. } => 4,
             Status::SourceFault => 5,
             Status::SinkFault => 6,
             Status::LogFault => 7,
@@ -66,6 +69,7 @@ impl fmt::Display for Status {
             Status::Done => write!(f, "done"),
             Status::Usage => write!(f, "usage"),
             Status::BadInput { line } => write!(f, "bad input: line {line}"),
+            Status::BadLog { place } => write!(f, "bad log: byte {place}"),
             Status::SourceFault => write!(f, "source fault"),
             Status::SinkFault => write!(f, "sink fault"),
             Status::LogFault => write!(f, "log fault"),

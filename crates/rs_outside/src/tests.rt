@@ -156,6 +156,7 @@ fn statuses_have_codes_and_texts(rt: HostRuntime) -> Result<(), Fail> {
         (Status::Done, 0, "done"),
         (Status::Usage, 2, "usage"),
         (Status::BadInput { line: 2 }, 3, "bad input: line 2"),
+        (Status::BadLog { place: 15 }, 4, "bad log: byte 15"),
         (Status::SourceFault, 5, "source fault"),
         (Status::SinkFault, 6, "sink fault"),
         (Status::LogFault, 7, "log fault"),

@@ -1,9 +1,12 @@
 pub use Rattle.resp_read.specs.Frames
-pub use Rattle.cl_core.specs.Answers
+pub use Rattle.ks_space.specs.Store
+pub use Rattle.fx_log.specs.Dump
+pub use Rattle.fx_log.specs.Logs
 pub use Rattle.cl_core.specs.Machine
 pub mod Runs
 pub mod Session
 pub mod Transcript
+pub mod Replaying
 pub mod Taking
 pub mod Stops
 pub mod Serving

@@ -7,13 +7,16 @@ use Rattle.rs_outside.specs.declared.status.Status.TheVariants.{Done, BadInput, 
 use Rattle.cl_core.specs.Machine.{step}
 use Rattle.srv_loop.specs.Session.{IsSession, IsBadLine}
 use Rattle.srv_loop.specs.Runs.{state, outs, log_bytes, logged_in}
+use Rattle.srv_loop.specs.Replaying.{ReplaysTo}
 use Rattle.srv_loop.specs.Taking.{TookPrefix}
 use Rattle.srv_loop.specs.Transcript.{row_lines, transcript}
 
--- the log was begun under this name and took the log bytes of these turns, and the output took their transcript
+-- the log was begun under this name and took the log bytes of these turns, which replayed give the store that they leave,
+-- and the output took their transcript
 pub record Plays (name : List ℕ) (turns : List Turn) (names names' : Option (List (List ℕ))) (log log' out out' : Option (List ℕ)) : Type 0 where
   pub begun : names' ≡ known_then names (name ∷ [])
   pub logged : log' ≡ known_then log (log_bytes turns)
+  pub replays : ReplaysTo (log_bytes turns) (state turns).store
   pub written : out' ≡ known_then out (transcript turns)
 
 -- the log bytes of the turn after these

@@ -7,8 +7,8 @@ use Rattle.resp_read.specs.Frames.{within_u64}
 use Rattle.rs_outside.specs.declared.turn.Turn.{Turn}
 use Rattle.rs_outside.specs.declared.turn.OutRow.{OutRow}
 use Rattle.rs_outside.specs.declared.turn.OutRow.TheVariants.{Sent, Shut}
-use Rattle.cl_core.specs.Answers.{Store}
-use Rattle.cl_core.specs.Dump.{dump}
+use Rattle.ks_space.specs.Store.{Store}
+use Rattle.fx_log.specs.Dump.{dump}
 use Rattle.srv_loop.specs.Runs.{state, outs, log_bytes}
 
 -- `CLIENT send TEXT` or `CLIENT shut`

@@ -2,6 +2,7 @@
 //! to the log, and then what they send goes to the wire or the transcript.
 #![tactic(auto)]
 
+mod laws;
 mod playing;
 mod serving;
 mod session;
@@ -10,7 +11,9 @@ mod tests;
 mod transcript;
 mod writing;
 
+pub use laws::log_replays;
 pub use playing::play;
 pub use serving::serve;
 pub use session::{MAX_PIECE_BYTES, session_line};
 pub use transcript::put_row;
+pub use writing::write_out;

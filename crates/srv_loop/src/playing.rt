@@ -11,6 +11,7 @@ ghost use Rattle.srv_loop.specs.Taking.{CutsTurn, TookPrefix};
 ghost use Rattle.srv_loop.specs.Play.{Plays, CutsPlay, StopsAnywhere, IsPlayStatus};
 ghost use Rattle.srv_loop.specs.Stops.{Stops, Never};
 
+use crate::laws::log_replays;
 use crate::serving::serve_turn;
 use crate::session::{first_turn, judge};
 use crate::transcript::{put_ending, put_rows};
@@ -80,6 +81,7 @@ fn try_play<O: Sink, L: Log>(
 {
     judge(alloc, session)?;
     begin(log, name)?;
+    log_replays();
     play_turns(alloc, session, out, log)
 }
 
@@ -155,6 +157,6 @@ fn write_ending<O: Sink>(
     ensures later { O.faults out.old ≤ O.faults out.new }
 {
     let mut lines = Bytes::new(alloc);
-    put_ending(server, turns, logged, &mut lines)?;
+    put_ending(server.space(), turns, logged, &mut lines)?;
     write_out(out, lines.as_slice())
 }

@@ -1,7 +1,8 @@
 ghost use Rattle.std.specs.Prelude.{◌≡◌, ◌++◌, OnOk};
 ghost use Rattle.srv_loop.specs.Transcript.{row_line, row_lines, ending};
 
-use cl_core::Server;
+use fx_log::dump;
+use ks_space::Space;
 use rs_base::{Bytes, NoMemory, escape, write_decimal};
 use rs_outside::{OutRow, Outs};
 
@@ -36,15 +37,15 @@ pub fn put_rows(rows: &Outs, out: &mut Bytes) -> Result<(), NoMemory>
 }
 
 /// Adds the last lines of the transcript: `end turns=T keys=K log=B`, and the dump.
-pub fn put_ending(server: &Server, turns: u64, logged: u64, out: &mut Bytes) -> Result<(), NoMemory>
-    ensures { OnOk result (out.new ≡ out.old ++ ending turns logged server.now.store) }
+pub fn put_ending(space: &Space, turns: u64, logged: u64, out: &mut Bytes) -> Result<(), NoMemory>
+    ensures { OnOk result (out.new ≡ out.old ++ ending turns logged space.now) }
 {
     out.append(b"end turns=")?;
     write_decimal(turns, out)?;
     out.append(b" keys=")?;
-    write_decimal(server.keys() as u64, out)?;
+    write_decimal(space.len() as u64, out)?;
     out.append(b" log=")?;
     write_decimal(logged, out)?;
     out.append(b"\n")?;
-    server.dump(out)
+    dump(space, out)
 }

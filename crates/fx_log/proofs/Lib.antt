@@ -1,0 +1,10 @@
+pub mod GoingOn
+pub mod Cases
+pub mod EntryLaws
+pub mod Runs
+pub mod Texts
+pub mod Feeding
+pub mod Staying
+pub mod LogLaws
+pub mod Written
+pub mod Cuts

@@ -1,0 +1,119 @@
+-- What is written of groups is a row of frames, whose commands are a row of items.
+use Rattle.std.proofs.Common.{◌≡◌, ℕ, Bool, true, false, None, List, [], ◌∷◌, ◌++◌, map, refl, sym, ap, ◌∙◌, arith, append_assoc, append-nil}
+use Rattle.std.specs.List.{AllByRecursion, flat_map}
+use Rattle.std.proofs.lemmas.Grind.{flat_map-append}
+use Rattle.ks_space.specs.declared.record.Record.{Record}
+use Rattle.ks_space.specs.RecordWords.{words_of}
+use Rattle.resp_read.specs.declared.command.Command.{Command}
+use Rattle.resp_read.specs.Frames.{Form, Given, IsForm, IsCommand, row_text, frame, Begins, LongestRow, IsRow, commands_in, commands_from}
+use Rattle.fx_log.specs.declared.group.Group.{Group}
+use Rattle.fx_log.specs.Groups.{record_text, records_text, group_text, log_text, IsWritable, IsGroup}
+use Rattle.fx_log.specs.Items.{multi, exec, Item, Bare, Wrapped, item_words, row_words, item_groups, groups_of}
+use Rattle.fx_log.specs.Logs.{IsLog}
+
+abbrev pub WordsGiven : Type 0
+WordsGiven = (at : ℕ) (forms : List Form) → map (λ (command : Command). command.words) (commands_from at forms) ≡ commands_in forms
+
+-- the item that a group is written as
+abbrev pub item_at : Bool → List Record → Item
+item_at true records = Wrapped records
+item_at false [] = Wrapped []
+item_at false (effect ∷ records) = Bare effect
+
+abbrev pub item_of : Group → Item
+item_of group = item_at group.wrapped group.records
+
+abbrev pub items_of : List Group → List Item
+items_of groups = map item_of groups
+
+frames-records : (records : List Record) (rest : List (List (List ℕ))) → flat_map frame (map words_of records ++ rest) ≡ records_text records ++ flat_map frame rest
+frames-records [] rest = refl
+frames-records (effect ∷ records) rest =
+    ap (λ t. record_text effect ++ t) (frames-records records rest) ∙ sym (append_assoc (record_text effect) (records_text records) (flat_map frame rest))
+
+abbrev pub IsWrittenAs : Group → Item → Type 0
+IsWrittenAs group item = (item_groups item ≡ group ∷ []) × (group_text group ≡ flat_map frame (item_words item)) × AllByRecursion IsCommand (item_words item)
+
+abbrev pub multi-fits : IsCommand multi
+multi-fits = record { some = omega arith; few = omega arith; each = (omega arith, tt); all = omega arith }
+
+abbrev pub exec-fits : IsCommand exec
+exec-fits = record { some = omega arith; few = omega arith; each = (omega arith, tt); all = omega arith }
+
+each-command : (records : List Record) → AllByRecursion IsWritable records → AllByRecursion IsCommand (map words_of records ++ exec ∷ [])
+each-command [] each = (exec-fits, tt)
+each-command (effect ∷ records) each = (each.0, each-command records each.1)
+
+written-at : (wrapped : Bool) (records : List Record) → IsGroup (record { records = records; wrapped = wrapped }) → IsWrittenAs (record { records = records; wrapped = wrapped }) (item_at wrapped records)
+written-at true [] is = let some = is.some in absurd (omega arith)
+written-at true (effect ∷ records) is = (
+  refl,
+  append_assoc (frame multi) (records_text (effect ∷ records)) (frame exec)
+      ∙ ap (λ t. frame multi ++ t) (ap (λ t. records_text (effect ∷ records) ++ t) (sym (append-nil (frame exec))) ∙ sym (frames-records (effect ∷ records) (exec ∷ []))),
+  (multi-fits, each-command (effect ∷ records) is.each),
+)
+written-at false [] is = let some = is.some in absurd (omega arith)
+written-at false (effect ∷ []) is = (refl, refl, (is.each.0, tt))
+written-at false (effect ∷ second ∷ records) is = let one = is.one refl in absurd (omega arith)
+
+pub group-written : (group : Group) → IsGroup group → IsWrittenAs group (item_of group)
+group-written group is = written-at group.wrapped group.records is
+
+each-append : {X : Type 0} (P : X → Type 0) (xs ys : List X) → AllByRecursion P xs → AllByRecursion P ys → AllByRecursion P (xs ++ ys)
+each-append P [] ys front back = back
+each-append P (x ∷ xs) ys front back = (front.0, each-append P xs ys front.1 back)
+
+-- groups, their text and the commands of it
+pub record Written (groups : List Group) : Type 0 where
+  pub groups_are : groups_of (items_of groups) ≡ groups
+  pub text_is : log_text groups ≡ flat_map frame (row_words (items_of groups))
+  pub each : AllByRecursion IsCommand (row_words (items_of groups))
+
+pub written : (groups : List Group) → AllByRecursion IsGroup groups → Written groups
+written [] each = record { groups_are = refl; text_is = refl; each = tt }
+written (group ∷ groups) each =
+    let first = group-written group each.0 in
+    let later = written groups each.1 in
+    record {
+      groups_are = ap (λ gs. gs ++ groups_of (items_of groups)) first.0 ∙ ap (λ gs. group ∷ gs) later.groups_are;
+      text_is = ap (λ t. t ++ log_text groups) first.1 ∙ ap (λ t. flat_map frame (item_words (item_of group)) ++ t) later.text_is
+          ∙ sym (flat_map-append frame (item_words (item_of group)) (row_words (items_of groups)));
+      each = each-append IsCommand (item_words (item_of group)) (row_words (items_of groups)) first.2 later.each;
+    }
+
+-- the forms of these commands
+abbrev pub given : List (List (List ℕ)) → List Form
+given words = map Given words
+
+pub given-text : (words : List (List (List ℕ))) → row_text (given words) ≡ flat_map frame words
+given-text [] = refl
+given-text (w ∷ words) = ap (λ t. frame w ++ t) (given-text words)
+
+given-each : (words : List (List (List ℕ))) → AllByRecursion IsCommand words → AllByRecursion IsForm (given words)
+given-each [] each = tt
+given-each (w ∷ words) each = (each.0, given-each words each.1)
+
+pub given-commands : (words : List (List (List ℕ))) → commands_in (given words) ≡ words
+given-commands [] = refl
+given-commands (w ∷ words) = ap (λ ws. w ∷ ws) (given-commands words)
+
+pub written-is-row : (groups : List Group) → Written groups → IsRow (log_text groups) (given (row_words (items_of groups)))
+written-is-row groups is = record { each = given-each (row_words (items_of groups)) is.each; text_is = is.text_is ∙ sym (given-text (row_words (items_of groups))) }
+
+pub row-longest : (text : List ℕ) (forms : List Form) → IsRow text forms → LongestRow text forms []
+row-longest text forms row = record { each = row.each; text_is = row.text_is ∙ sym (append-nil (row_text forms)); longest = λ others left each e. omega arith }
+
+pub row-begins : (text : List ℕ) (forms : List Form) → IsRow text forms → Begins text
+row-begins text forms row = ([], forms, record { each = row.each; text_is = append-nil text ∙ row.text_is })
+
+pub written-log : WordsGiven → (groups : List Group) → AllByRecursion IsGroup groups → IsLog (log_text groups) (items_of groups) None
+written-log words_given groups each =
+    let is = written groups each in
+    let row = written-is-row groups is in
+    let forms = given (row_words (items_of groups)) in
+    record {
+      commands = commands_from 0 forms;
+      whole = record { forms = forms; rest = []; row = row-longest (log_text groups) forms row; commands_are = refl };
+      begins = row-begins (log_text groups) forms row;
+      words_are = words_given 0 forms ∙ given-commands (row_words (items_of groups)) ∙ sym (append-nil (row_words (items_of groups)));
+    }

@@ -1,0 +1,48 @@
+-- What a log is made of, as commands: records that stand alone, and records between `MULTI` and `EXEC`.
+use Rattle.std.specs.Prelude.{◌≡◌, ℕ, true, false, Option, Some, None, List, [], ◌∷◌, ◌++◌, map, codes}
+use Rattle.std.specs.List.{flat_map}
+use Rattle.ks_space.specs.declared.record.Record.{Record}
+use Rattle.ks_space.specs.RecordWords.{words_of}
+use Rattle.fx_log.specs.declared.group.Group.{Group}
+
+abbrev pub multi : List (List ℕ)
+multi = codes "MULTI" ∷ []
+
+abbrev pub exec : List (List ℕ)
+exec = codes "EXEC" ∷ []
+
+pub data Item : Type 0 where
+  Bare : Record → Item
+  Wrapped : List Record → Item
+
+-- the commands of an item, each by its words
+abbrev pub item_words : Item → List (List (List ℕ))
+item_words (Bare entry) = words_of entry ∷ []
+item_words (Wrapped records) = multi ∷ (map words_of records ++ exec ∷ [])
+
+abbrev pub row_words : List Item → List (List (List ℕ))
+row_words items = flat_map item_words items
+
+-- the commands of an item that is not at its end: none, or `MULTI` and records
+abbrev pub open_words : Option (List Record) → List (List (List ℕ))
+open_words None = []
+open_words (Some records) = multi ∷ map words_of records
+
+-- the commands can go on to a row of items
+abbrev pub BeginsItems : List (List (List ℕ)) → Type 0
+BeginsItems words = (more : List (List (List ℕ))) × (items : List Item) × (words ++ more ≡ row_words items)
+
+-- the group of records between `MULTI` and `EXEC`: none where there is no record
+abbrev pub wrapped_groups : List Record → List Group
+wrapped_groups [] = []
+wrapped_groups (first ∷ records) = record { records = first ∷ records; wrapped = true } ∷ []
+
+abbrev pub bare_group : Record → Group
+bare_group entry = record { records = entry ∷ []; wrapped = false }
+
+abbrev pub item_groups : Item → List Group
+item_groups (Bare entry) = bare_group entry ∷ []
+item_groups (Wrapped records) = wrapped_groups records
+
+abbrev pub groups_of : List Item → List Group
+groups_of items = flat_map item_groups items

@@ -1,0 +1,3 @@
+pub use Rattle.rs_base.specs.Bytes
+pub mod Store
+pub mod RecordWords
