@@ -1,0 +1,9 @@
+pub mod Classes
+pub mod LongLemmas
+pub mod LineLemmas
+pub mod PieceLemmas
+pub mod Prefixes
+pub mod ReadLemmas
+pub mod RowLemmas
+pub mod RuleLemmas
+pub mod ValueLemmas

@@ -1,0 +1,13 @@
+pub mod Lines
+pub mod Long
+pub mod Pieces
+pub mod Rules
+pub mod Runs
+pub mod Strings
+pub mod Symbols
+pub mod Tokens
+pub mod ValueReading
+pub mod Values
+pub mod Words
+pub use Rattle.rs_whole.specs.Numerals
+pub use Rattle.rs_whole.specs.Wholes

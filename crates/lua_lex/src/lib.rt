@@ -1,0 +1,19 @@
+//! The tokens of a Lua text (Lua 5.1 manual, 2.1).
+#![tactic(auto)]
+
+mod items;
+mod kinds;
+mod lines;
+mod long;
+mod quotes;
+mod runs;
+mod scanning;
+mod symbols;
+#[cfg(test)]
+mod tests;
+mod values;
+mod words;
+
+pub use kinds::{LexKind, LexStop, Token, TokenKind, TokenList};
+pub use scanning::{one_token_list, tokens};
+pub use values::string_bytes;

@@ -1,0 +1,11 @@
+pub mod DigitRows
+pub mod Caps
+pub mod Division
+pub mod Heads
+pub mod IntegerTexts
+pub mod NumeralTexts
+pub mod Places
+pub mod Powers
+pub mod ShiftTexts
+pub mod SignedTexts
+pub mod SpaceTexts
