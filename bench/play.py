@@ -125,7 +125,7 @@ def main():
                   ("in single bytes", measure(folder, bytes_apart())),
                   ("in single bytes unheard, then in one piece", measure(folder, bytes_unheard()))]
         clients = [(f"{n:,}", measure(folder, turns_of(n))) for n in (1, 1_000)]
-    report = (f"\n### {datetime.date.today().isoformat()}, load {os.getloadavg()[0]:.1f} on {os.cpu_count()} processors\n\n"
+    report = (f"\n### play, {datetime.date.today().isoformat()}, load {os.getloadavg()[0]:.1f} on {os.cpu_count()} processors\n\n"
               + table("SET lines", lines)
               + f"\nTwice the session took {lines[1][1][1] / lines[0][1][1]:.2f} times as long.\n\n"
               + table("1 MB of SETs", pieces)
