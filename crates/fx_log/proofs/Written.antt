@@ -7,7 +7,7 @@ use Rattle.ks_space.specs.RecordWords.{words_of}
 use Rattle.resp_read.specs.declared.command.Command.{Command}
 use Rattle.resp_read.specs.Frames.{Form, Given, IsForm, IsCommand, row_text, frame, Begins, LongestRow, IsRow, commands_in, commands_from}
 use Rattle.fx_log.specs.declared.group.Group.{Group}
-use Rattle.fx_log.specs.Groups.{record_text, records_text, group_text, log_text, IsWritable, IsGroup}
+use Rattle.fx_log.specs.Groups.{record_text, records_text, wrapped_text, group_text, log_text, IsWritable, IsGroup}
 use Rattle.fx_log.specs.Items.{multi, exec, Item, Bare, Wrapped, item_words, row_words, item_groups, groups_of}
 use Rattle.fx_log.specs.Logs.{IsLog}
 
@@ -44,14 +44,16 @@ each-command : (records : List Record) → AllByRecursion IsWritable records →
 each-command [] each = (exec-fits, tt)
 each-command (effect ∷ records) each = (each.0, each-command records each.1)
 
+wrapped-text : (records : List Record) → wrapped_text records ≡ flat_map frame (multi ∷ map words_of records ++ exec ∷ [])
+wrapped-text records =
+    append_assoc (frame multi) (records_text records) (frame exec)
+    ∙ ap (λ t. frame multi ++ t) (ap (λ t. records_text records ++ t) (sym (append-nil (frame exec))) ∙ sym (frames-records records (exec ∷ [])))
+
 written-at : (wrapped : Bool) (records : List Record) → IsGroup (record { records = records; wrapped = wrapped }) → IsWrittenAs (record { records = records; wrapped = wrapped }) (item_at wrapped records)
 written-at true [] is = let some = is.some in absurd (omega arith)
-written-at true (effect ∷ records) is = (
-  refl,
-  append_assoc (frame multi) (records_text (effect ∷ records)) (frame exec)
-      ∙ ap (λ t. frame multi ++ t) (ap (λ t. records_text (effect ∷ records) ++ t) (sym (append-nil (frame exec))) ∙ sym (frames-records (effect ∷ records) (exec ∷ []))),
-  (multi-fits, each-command (effect ∷ records) is.each),
-)
+written-at true (effect ∷ []) is = (refl, wrapped-text (effect ∷ []), (multi-fits, each-command (effect ∷ []) is.each))
+written-at true (effect ∷ second ∷ records) is =
+    (refl, wrapped-text (effect ∷ second ∷ records), (multi-fits, each-command (effect ∷ second ∷ records) is.each))
 written-at false [] is = let some = is.some in absurd (omega arith)
 written-at false (effect ∷ []) is = (refl, refl, (is.each.0, tt))
 written-at false (effect ∷ second ∷ records) is = let one = is.one refl in absurd (omega arith)

@@ -1,5 +1,5 @@
 -- The effect log as text: groups of records, each record the frame of its words.
-use Rattle.std.specs.Prelude.{◌≡◌, ℕ, ◌<◌, false, if◌then◌else◌, List, [], ◌∷◌, ◌++◌, length, codes}
+use Rattle.std.specs.Prelude.{◌≡◌, ℕ, ◌<◌, Bool, true, false, List, [], ◌∷◌, ◌++◌, length, codes}
 use Rattle.std.specs.List.{AllByRecursion, flat_map}
 use Rattle.ks_space.specs.declared.record.Record.{Record}
 use Rattle.ks_space.specs.RecordWords.{words_of}
@@ -12,11 +12,20 @@ record_text entry = frame (words_of entry)
 abbrev pub records_text : List Record → List ℕ
 records_text records = flat_map record_text records
 
--- the records, between `MULTI` and `EXEC` where the group is wrapped
+-- between `MULTI` and `EXEC`
+abbrev pub wrapped_text : List Record → List ℕ
+wrapped_text records = frame (codes "MULTI" ∷ []) ++ records_text records ++ frame (codes "EXEC" ∷ [])
+
+-- A group without records is not written, and one of a single record is written bare, unless it is wrapped. Every other
+-- group is written between `MULTI` and `EXEC`.
+abbrev pub text_at : Bool → List Record → List ℕ
+text_at wrapped [] = []
+text_at true (only ∷ []) = wrapped_text (only ∷ [])
+text_at false (only ∷ []) = records_text (only ∷ [])
+text_at wrapped (first ∷ second ∷ records) = wrapped_text (first ∷ second ∷ records)
+
 abbrev pub group_text : Group → List ℕ
-group_text group =
-    if group.wrapped then frame (codes "MULTI" ∷ []) ++ records_text group.records ++ frame (codes "EXEC" ∷ [])
-    else records_text group.records
+group_text group = text_at group.wrapped group.records
 
 abbrev pub log_text : List Group → List ℕ
 log_text groups = flat_map group_text groups

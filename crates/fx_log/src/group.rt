@@ -1,5 +1,5 @@
 ghost use Rattle.std.specs.Prelude.{◌≡◌, ◌++◌, OnOk};
-ghost use Rattle.fx_log.specs.Groups.{group_text, records_text};
+ghost use Rattle.fx_log.specs.Groups.{group_text, records_text, wrapped_text};
 
 use crate::frames::{write_record, write_single};
 use ks_space::Effects;
@@ -15,17 +15,25 @@ pub struct Group {
 /// Groups in order.
 pub type Groups = Seq<Group>;
 
-/// Adds the bytes of a group: the frames of its records, between those of `MULTI` and `EXEC` where it is wrapped.
+/// Adds the bytes of a group: nothing where it has no record; the frame of a single record, unless the group is wrapped;
+/// and otherwise the frames of its records between those of `MULTI` and `EXEC`.
 pub fn write_group(group: &Group, out: &mut Bytes) -> Result<(), NoMemory>
     ensures { OnOk result (out.new ≡ out.old ++ group_text group.now) }
 {
-    if group.wrapped {
-        write_single(b"MULTI", out)?;
-        write_records(&group.records, out)?;
-        write_single(b"EXEC", out)
-    } else {
-        write_records(&group.records, out)
+    match group.records.as_slice() {
+        [] => Ok(()),
+        [only] if !group.wrapped => write_record(only, out),
+        _ => write_wrapped(&group.records, out),
     }
+}
+
+// Adds the frames of records between those of `MULTI` and `EXEC`.
+fn write_wrapped(records: &Effects, out: &mut Bytes) -> Result<(), NoMemory>
+    ensures { OnOk result (out.new ≡ out.old ++ wrapped_text records.now) }
+{
+    write_single(b"MULTI", out)?;
+    write_records(records, out)?;
+    write_single(b"EXEC", out)
 }
 
 // Adds the frames of records, in order.

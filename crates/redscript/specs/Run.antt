@@ -8,7 +8,7 @@ use Rattle.srv_loop.specs.Play.{Plays, StopsAnywhere}
 use Rattle.redscript.specs.Input.{HasReadAll}
 use Rattle.redscript.specs.Replay.{Replays, CutsReplay}
 pub use Rattle.redscript.specs.Input.{PassesLimit}
-pub use Rattle.redscript.specs.Replay.{FindsBadLog, PassesLogLimit, up_to_limit}
+pub use Rattle.redscript.specs.Replay.{FindsBadLog, PassesLogLimit, IsReplayStatus, up_to_limit}
 pub use Rattle.redscript.specs.Forms.{IsPlay, IsReplay, HasNoForm}
 
 -- the input was read to its end and is a session, and that was played

@@ -7,7 +7,7 @@ ghost use Rattle.fx_log.specs.declared.stops.LogKind.{LogKind};
 ghost use Rattle.fx_log.specs.Logs.{IsBadLog, HasBadPlace};
 ghost use Rattle.redscript.specs.declared.reading.TheConstants.{MAX_INPUT_BYTES};
 ghost use Rattle.redscript.specs.declared.replaying.TheConstants.{MAX_LOG_BYTES};
-ghost use Rattle.redscript.specs.Run.{IsPlay, IsReplay, HasNoForm, PlaysToEnd, ReplaysToEnd, FindsBad, FindsBadLog, PassesLimit, PassesLogLimit, IsRefusal, IsRunStatus, StopsRun, up_to_limit};
+ghost use Rattle.redscript.specs.Run.{IsPlay, IsReplay, HasNoForm, PlaysToEnd, ReplaysToEnd, FindsBad, FindsBadLog, PassesLimit, PassesLogLimit, IsRefusal, IsRunStatus, IsReplayStatus, StopsRun, up_to_limit};
 
 use crate::forms::{Form, form_of};
 use crate::reading::read_all;
@@ -52,8 +52,9 @@ pub fn run<W: Wire, S: Source, O: Sink, L: Log>(
         ⊎ (IsReplay words.now × (bytes ≡ MAX_LOG_BYTES) × PassesLogLimit (S.left input.old) (S.left input.new)) }
     ensures refused_keeps { IsRefusal result → (log.new ≡ log.old) × (out.new ≡ out.old) }
 
-    // The wire is not asked, so none of its statuses is answered.
+    // The wire is not asked, so none of its statuses is answered; a replay does not ask the log either.
     ensures others { IsRunStatus result }
+    ensures replay_status { IsReplay words.now → IsReplayStatus result }
 
     // A fault is answered only where that object's count rose in this call.
     ensures source_fault { result ≡ Status.SourceFault → Rose (S.faults input.old) (S.faults input.new) }
