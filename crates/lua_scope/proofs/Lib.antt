@@ -1,0 +1,10 @@
+pub mod Lists
+pub mod Finding
+pub mod Noting
+pub mod Leaving
+pub mod Innermost
+pub mod Declared
+pub mod Behind
+pub mod Numbers
+pub mod Found
+pub mod Kept

@@ -1,0 +1,4 @@
+pub mod Scoping
+pub mod Functions
+pub mod Texts
+pub mod Captures
