@@ -6,30 +6,25 @@ First it plays the example session and compares what the real files then hold, w
 sessions of SET lines, bytes that come whole or one by one, and turns of one client or of a thousand.
 Each session is played RUNS times into files in a new folder; the best time counts, as the others measure the machine.
 """
-import datetime
 import os
-import subprocess
 import tempfile
-import time
 
-TOP = os.path.dirname(os.path.dirname(os.path.abspath(__file__)))
-PROGRAM = os.path.join(TOP, "crates", "redscript", "out", "redscript")
+from common import REDSCRIPT, RUNS, TOP, best, check, frame, heading, run, write
+
 EXAMPLE = os.path.join(TOP, "crates", "redscript")
-REPORT = os.path.join(TOP, "docs", "PERFORMANCE.md")
-LOGGED = b"*3\r\n$3\r\nSET\r\n$1\r\nk\r\n$1\r\nv\r\n"
-RUNS = 5
+LOGGED = frame("SET", "k", "v").encode()
 
 
-def frame(*words):
-    """A command as a client sends it, in the escape of a session; the words need no escape."""
-    return f"*{len(words)}\\r\\n" + "".join(f"${len(word)}\\r\\n{word}\\r\\n" for word in words)
+def escaped(text):
+    """Bytes in the escape of a session; these need it at line ends alone."""
+    return text.replace("\r", "\\r").replace("\n", "\\n")
 
 
 def sets(lines):
     """Client 1 opens and sets `lines` keys to values of 100 bytes."""
     yield "1000 0 1 opened\n"
     for i in range(lines):
-        yield f"{1000 + i} {i} 1 piece {frame('SET', f'key:{i:06}', f'{i:0100}')}\n"
+        yield f"{1000 + i} {i} 1 piece {escaped(frame('SET', f'key:{i:06}', f'{i:0100}'))}\n"
 
 
 MEGABYTE = frame("SET", "k", "a" * 1000) * 970
@@ -37,13 +32,13 @@ MEGABYTE = frame("SET", "k", "a" * 1000) * 970
 
 def one_by_one(client):
     """The bytes of about one megabyte of SETs, each in a piece of its own."""
-    for byte in MEGABYTE.replace("\\r", "\r").replace("\\n", "\n"):
-        yield f"1000 0 {client} piece {byte}\n".replace("\r", "\\r").replace("\n\n", "\\n\n")
+    for byte in MEGABYTE:
+        yield f"1000 0 {client} piece {escaped(byte)}\n"
 
 
 def bytes_whole():
     yield "1000 0 1 opened\n"
-    yield from (f"1000 0 1 piece {MEGABYTE}\n",)
+    yield f"1000 0 1 piece {escaped(MEGABYTE)}\n"
 
 
 def bytes_apart():
@@ -62,7 +57,7 @@ def turns_of(clients):
     for client in range(clients):
         yield f"1000 0 {client + 1} opened\n"
     for i in range(100_000):
-        yield f"1000 0 {i % clients + 1} piece {frame('SET', f'k{i % 1000}', 'v')}\n"
+        yield f"1000 0 {i % clients + 1} piece {escaped(frame('SET', f'k{i % 1000}', 'v'))}\n"
 
 
 def read(*path):
@@ -77,27 +72,18 @@ def check_files(folder):
     for text, status, out, logged in [(session_text + b"x\n", 3, b"", None),
                                       (session_text, 0, read(EXAMPLE, "stdout"), LOGGED),
                                       (session_text, 7, b"", LOGGED)]:
-        done = subprocess.run([PROGRAM, "play", log], input=text, stdout=subprocess.PIPE,
-                              stderr=subprocess.DEVNULL, check=False)
+        check([REDSCRIPT, "play", log], text, status, out)
         held = read(log) if os.path.exists(log) else None
-        if (done.returncode, done.stdout, held) != (status, out, logged):
-            raise SystemExit(f"not as wanted: status {done.returncode}, output {done.stdout}, log {held}")
+        if held != logged:
+            raise SystemExit(f"not as wanted: log {held}")
 
 
-def play(folder, path, run):
+def play(folder, path, number):
     """One play: seconds and the greatest resident size in bytes."""
-    out = os.path.join(folder, f"out.{run}")
-    log = os.path.join(folder, f"log.{run}")
-    with open(path, "rb") as source, open(out, "wb") as sink:
-        begun = time.perf_counter()
-        process = subprocess.Popen([PROGRAM, "play", log], stdin=source, stdout=sink)
-        _, status, usage = os.wait4(process.pid, 0)
-        seconds = time.perf_counter() - begun
-    if os.waitstatus_to_exitcode(status) != 0:
-        raise SystemExit(f"the program ended with {os.waitstatus_to_exitcode(status)}")
-    os.remove(out)
+    log = os.path.join(folder, f"log.{number}")
+    taken = run([REDSCRIPT, "play", log], path, os.path.join(folder, "out"))
     os.remove(log)
-    return seconds, usage.ru_maxrss * 1024
+    return taken
 
 
 def measure(folder, lines):
@@ -105,8 +91,7 @@ def measure(folder, lines):
     path = os.path.join(folder, "session")
     with open(path, "w", encoding="ascii") as file:
         file.writelines(lines)
-    plays = [play(folder, path, run) for run in range(RUNS)]
-    return os.path.getsize(path), min(p[0] for p in plays), max(p[1] for p in plays)
+    return os.path.getsize(path), *best([play(folder, path, number) for number in range(RUNS)])
 
 
 def table(head, rows):
@@ -125,7 +110,7 @@ def main():
                   ("in single bytes", measure(folder, bytes_apart())),
                   ("in single bytes unheard, then in one piece", measure(folder, bytes_unheard()))]
         clients = [(f"{n:,}", measure(folder, turns_of(n))) for n in (1, 1_000)]
-    report = (f"\n### play, {datetime.date.today().isoformat()}, load {os.getloadavg()[0]:.1f} on {os.cpu_count()} processors\n\n"
+    report = (heading("play")
               + table("SET lines", lines)
               + f"\nTwice the session took {lines[1][1][1] / lines[0][1][1]:.2f} times as long.\n\n"
               + table("1 MB of SETs", pieces)
@@ -133,9 +118,7 @@ def main():
               "beside the same lines unheard.\n\n"
               + table("clients", clients)
               + f"\nA turn of a thousand clients took {clients[1][1][1] / clients[0][1][1]:.2f} times as long as one of one client.\n")
-    print(report)
-    with open(REPORT, "a", encoding="utf-8") as file:
-        file.write(report)
+    write(report)
 
 
 main()

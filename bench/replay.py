@@ -6,22 +6,13 @@ First it replays a small log, whole and cut, and compares what is written. Then 
 10 and of 100 MB: the time is to grow with the log, and the memory with the store alone.
 Each log is replayed RUNS times; the best time counts, as the others measure the machine.
 """
-import datetime
 import os
-import subprocess
 import tempfile
-import time
 
-TOP = os.path.dirname(os.path.dirname(os.path.abspath(__file__)))
-PROGRAM = os.path.join(TOP, "crates", "redscript", "out", "redscript")
-REPORT = os.path.join(TOP, "docs", "PERFORMANCE.md")
+from common import REDSCRIPT, RUNS, best, check, frame, heading, run, write
+
+REPLAY = [REDSCRIPT, "replay"]
 KEYS = 1_000
-RUNS = 5
-
-
-def frame(*words):
-    """A record as the log has it."""
-    return f"*{len(words)}\r\n" + "".join(f"${len(word)}\r\n{word}\r\n" for word in words)
 
 
 def records(size):
@@ -38,23 +29,9 @@ def records(size):
 def check_output():
     """A group counts where it is whole, and a bad byte is found."""
     log = (frame("MULTI") + frame("SET", "a", "1") + frame("SET", "b", "2") + frame("EXEC")).encode()
-    whole = b"end groups=1 keys=2\na string - 1\nb string - 2\n"
-    for text, status, out in [(log, 0, whole), (log[:-1], 0, b"end groups=0 keys=0\n"), (log + b"!", 4, b"")]:
-        done = subprocess.run([PROGRAM, "replay"], input=text, stdout=subprocess.PIPE, stderr=subprocess.DEVNULL, check=False)
-        if (done.returncode, done.stdout) != (status, out):
-            raise SystemExit(f"not as wanted: status {done.returncode}, output {done.stdout}")
-
-
-def replay(path, out):
-    """One replay: seconds and the greatest resident size in bytes."""
-    with open(path, "rb") as source, open(out, "wb") as sink:
-        begun = time.perf_counter()
-        process = subprocess.Popen([PROGRAM, "replay"], stdin=source, stdout=sink)
-        _, status, usage = os.wait4(process.pid, 0)
-        seconds = time.perf_counter() - begun
-    if os.waitstatus_to_exitcode(status) != 0:
-        raise SystemExit(f"the program ended with {os.waitstatus_to_exitcode(status)}")
-    return seconds, usage.ru_maxrss * 1024
+    check(REPLAY, log, 0, b"end groups=1 keys=2\na string - 1\nb string - 2\n")
+    check(REPLAY, log[:-1], 0, b"end groups=0 keys=0\n")
+    check(REPLAY, log + b"!", 4, b"")
 
 
 def measure(folder, size):
@@ -62,21 +39,18 @@ def measure(folder, size):
     path = os.path.join(folder, "log")
     with open(path, "w", encoding="ascii", newline="") as file:
         file.writelines(records(size))
-    runs = [replay(path, os.path.join(folder, "out")) for _ in range(RUNS)]
-    return os.path.getsize(path), min(run[0] for run in runs), max(run[1] for run in runs)
+    return os.path.getsize(path), *best([run(REPLAY, path, os.path.join(folder, "out")) for _ in range(RUNS)])
 
 
 def main():
     check_output()
     with tempfile.TemporaryDirectory() as folder:
         rows = [measure(folder, size) for size in (10_000_000, 100_000_000)]
-    report = (f"\n### replay, {datetime.date.today().isoformat()}, load {os.getloadavg()[0]:.1f} on {os.cpu_count()} processors\n\n"
-              f"| log of SETs over {KEYS:,} keys | best of {RUNS} | MB a second | peak memory |\n|---|---|---|---|\n")
+    report = heading("replay") + (f"| log of SETs over {KEYS:,} keys | best of {RUNS} | MB a second | peak memory |\n"
+                                  "|---|---|---|---|\n")
     for size, seconds, memory in rows:
         report += f"| {size / 1e6:.1f} MB | {seconds:.3f} s | {size / 1e6 / seconds:.1f} | {memory / 1e6:.1f} MB |\n"
-    print(report)
-    with open(REPORT, "a", encoding="utf-8") as file:
-        file.write(report)
+    write(report)
 
 
 main()

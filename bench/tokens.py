@@ -6,16 +6,13 @@ First it compares the counts of two small texts and the stop of a third. Then it
 of code as it is written, of long names, of quoted strings, and of comments. The time is to grow with the text.
 Each text is taken RUNS times; the best time counts, as the others measure the machine.
 """
-import datetime
 import os
-import subprocess
-import time
+import tempfile
 
-TOP = os.path.dirname(os.path.dirname(os.path.abspath(__file__)))
-PROGRAM = os.path.join(TOP, "crates", "lua_tokens", "out", "lua_tokens")
-REPORT = os.path.join(TOP, "docs", "PERFORMANCE.md")
+from common import RUNS, best, check, heading, program, run, write
+
+PROGRAM = [program("lua_tokens")]
 MB = 1_000_000
-RUNS = 5
 
 CODE = """-- Takes a token from the bucket of a key, or says how long to wait.
 local function take(key, now, rate, burst)
@@ -35,39 +32,31 @@ TEXTS = {
 }
 
 
-def run(text):
-    """What the program writes of a text, and the seconds that it took."""
-    begun = time.perf_counter()
-    done = subprocess.run([PROGRAM], input=text, stdout=subprocess.PIPE, check=True)
-    return done.stdout, time.perf_counter() - begun
-
-
 def check_output():
     """Tokens are counted, and a fault is named with its line."""
-    for text, out in [(b"", b"0 tokens\n"), (b"return 1 -- one\n", b"2 tokens\n")]:
-        if run(text)[0] != out:
-            raise SystemExit(f"not as wanted: {run(text)[0]}")
-    if not run(b"\nreturn 'a")[0].startswith(b"line 2: "):
-        raise SystemExit("the stop was not named")
+    check(PROGRAM, b"", 0, b"0 tokens\n")
+    check(PROGRAM, b"return 1 -- one\n", 0, b"2 tokens\n")
+    check(PROGRAM, b"\nreturn 'a", 0, b"line 2: unfinished string\n")
 
 
-def best(text, size):
-    """The best time over a text of about this many bytes."""
-    whole = (text * (size // len(text) + 1)).encode()
-    return len(whole), min(run(whole)[1] for _ in range(RUNS))
+def measure(folder, text, size):
+    """The size of a text of about so many bytes, and the best time over it."""
+    path = os.path.join(folder, "text")
+    with open(path, "w", encoding="ascii") as file:
+        file.write(text * (size // len(text) + 1))
+    seconds, _ = best([run(PROGRAM, path, os.path.join(folder, "out")) for _ in range(RUNS)])
+    return os.path.getsize(path), seconds
 
 
 def main():
     check_output()
-    report = (f"\n### tokens, {datetime.date.today().isoformat()}, load {os.getloadavg()[0]:.1f} on {os.cpu_count()} processors\n\n"
-              f"| text | 16 MB, best of {RUNS} | MB a second | over 8 MB |\n|---|---|---|---|\n")
-    for name, text in TEXTS.items():
-        _, half = best(text, 8 * MB)
-        size, whole = best(text, 16 * MB)
-        report += f"| {name} | {whole:.3f} s | {size / MB / whole:.1f} | {whole / half:.2f} |\n"
-    print(report)
-    with open(REPORT, "a", encoding="utf-8") as file:
-        file.write(report)
+    report = heading("tokens") + f"| text | 16 MB, best of {RUNS} | MB a second | over 8 MB |\n|---|---|---|---|\n"
+    with tempfile.TemporaryDirectory() as folder:
+        for name, text in TEXTS.items():
+            _, half = measure(folder, text, 8 * MB)
+            size, whole = measure(folder, text, 16 * MB)
+            report += f"| {name} | {whole:.3f} s | {size / MB / whole:.1f} | {whole / half:.2f} |\n"
+    write(report)
 
 
 main()

@@ -1,5 +1,5 @@
 -- What a feed of a reader makes of a client.
-use Rattle.std.proofs.Common.{◌≡◌, ℕ, ◌+◌, List, [], ◌∷◌, ◌++◌, Ok, Err, length, map, refl, ap, subst, ◌∙◌, inl, inr}
+use Rattle.std.proofs.Common.{◌≡◌, ℕ, ◌+◌, List, [], ◌∷◌, ◌++◌, Ok, Err, length, map, refl, ap, subst, ◌∙◌}
 use Rattle.resp_read.specs.Frames.{Form, Given, EmptyArray, NegativeArray, form_text, frame, commands_in, commands_from}
 use Rattle.resp_read.specs.Reading.{Reading, Unfinished, Broken, reading, ReaderState, Waiting, Stopped, Spent, answer, after, unfinished}
 use Rattle.resp_read.specs.declared.command.Command.{Command}

@@ -13,9 +13,8 @@ use Rattle.rs_outside.specs.declared.turn.OutRow.TheVariants.{Shut}
 use Rattle.cl_core.specs.declared.request.Request.{Request}
 use Rattle.cl_core.specs.declared.request.Request.TheVariants as request
 use Rattle.ks_space.specs.declared.entry.Entry.{Entry}
-use Rattle.ks_space.specs.declared.record.Record.TheVariants.{Set, Del}
-use Rattle.ks_space.specs.Store.{plain_string}
-use Rattle.cl_core.specs.Answers.{Store, bulk_or_null, is_value, removed, reply_to, store_after, records_of}
+use Rattle.fx_record.specs.declared.record.Record.TheVariants.{Set, Del}
+use Rattle.cl_core.specs.Answers.{Store, plain_string, bulk_or_null, is_value, removed, reply_to, store_after, records_of}
 use Rattle.cl_core.specs.Machine.{Clients, Run, silent, beginning, reply_row, sending, group_of, with_request, with_turn, run_from}
 use Rattle.cl_core.specs.History.{Event, Asked, Told, Ended, events_by, events_from, asked_by, is_among, made_of, or_earlier, last_made, value_after, each_once, held_of, reply_after, records_after, rows_after, groups_after, IsHistory}
 use Rattle.cl_core.proofs.EventLaws.{with_event, moved, fold_moved, with_turn_is, clients_then, time_then}

@@ -4,6 +4,6 @@ pub mod FeedLaws
 pub mod HistoryLaws
 pub mod MapLaws
 pub mod RunLaws
-pub mod ShortLaws
+pub mod WithinLaws
 pub mod ValidLaws
 pub mod ReplayLaws

@@ -1,11 +1,10 @@
 -- What is logged leads to the store, and can be read back.
-use Rattle.std.proofs.Common.{◌≡◌, ℕ, ◌<◌, arith, Bool, true, false, List, [], ◌∷◌, ◌++◌, Option, Some, None, is_some, length, map, fold, cond, append-nil, refl, sym, ap, subst, ◌∙◌}
-use Rattle.std.specs.List.{AllByRecursion, flat_map}
+use Rattle.std.proofs.Common.{◌≡◌, ℕ, arith, Bool, true, false, List, [], ◌∷◌, ◌++◌, Option, Some, None, is_some, map, fold, cond, append-nil, refl, sym, ap, subst, ◌∙◌}
+use Rattle.std.specs.List.{AllByRecursion}
 use Rattle.std.specs.declared.cmp.Ordering.{Ordering}
 use Rattle.std.specs.declared.cmp.Ordering.TheVariants.{Less, Equal, Greater}
 use Rattle.std.specs.Ordering.{nat_cmp, is_eq, eq_by_cmp}
 use Rattle.std.specs.Cmp.Lexicographic.{slice_cmp}
-use Rattle.std.specs.Str.{bytes_eq}
 use Rattle.std.specs.FinMap as finite
 use Rattle.std.specs.FinMap.{nat_cmp-IsAntisymmetric, slice_cmp-IsAntisymmetric}
 use Rattle.std.proofs.lemmas.Cmp.{nat_list_cmp_total}
@@ -14,28 +13,36 @@ use Rattle.std.proofs.lemmas.Grind.{flat_map-append}
 use Rattle.std.proofs.lemmas.List.Sums.{fold-append}
 use Rattle.ks_space.specs.declared.entry.Entry.{Entry}
 use Rattle.ks_space.specs.declared.entry.Value.{Value}
-use Rattle.ks_space.specs.declared.entry.Value.TheVariants.{Str}
-use Rattle.ks_space.specs.declared.record.Record.{Record}
-use Rattle.ks_space.specs.declared.record.Record.TheVariants.{Set, Del}
-use Rattle.ks_space.specs.Store.{Store, plain_string, apply}
+use Rattle.ks_space.specs.declared.entry.Value.TheVariants as kind
+use Rattle.fx_record.specs.declared.record.Record.{Record}
+use Rattle.fx_record.specs.declared.record.Record.TheVariants.{Set, Del}
+use Rattle.ks_space.specs.Store.{Store}
+use Rattle.fx_record.specs.Records.{apply}
+use Rattle.fx_record.specs.RecordWords.{IsRecord}
 use Rattle.fx_log.specs.declared.group.Group.{Group}
-use Rattle.fx_log.specs.Groups.{IsWritable, IsGroup}
+use Rattle.fx_log.specs.Groups.{IsGroup}
 use Rattle.fx_log.specs.Dump.{records_in}
 use Rattle.resp_read.specs.Reading.{reading, IsReadingOf}
 use Rattle.rs_outside.specs.declared.turn.Turn.{Turn}
 use Rattle.rs_outside.specs.declared.turn.OutRow.TheVariants.{Shut}
 use Rattle.cl_core.specs.declared.request.Request.{Request}
 use Rattle.cl_core.specs.declared.request.Request.TheVariants as request
-use Rattle.cl_core.specs.Answers.{removed, store_after, is_plain, is_value, records_of}
-use Rattle.cl_core.specs.Machine.{Run, State, silent, sending, reply_row, group_of, with_request, step, with_turn, run_from}
+use Rattle.cl_core.specs.Requests.{IsWithin}
+use Rattle.ks_space.specs.Store.{IsKey}
+use Rattle.cl_core.specs.Answers.{plain_string, removed, store_after, is_plain, is_value, records_of}
+use Rattle.cl_core.specs.Machine.{Run, State, silent, sending, reply_row, group_of, with_request, with_turn, run_from}
 use Rattle.cl_core.specs.History.{Event, Asked, Told, Ended, events_by}
-use Rattle.cl_core.proofs.EventLaws.{with_event, turn_is, with_turn_is}
+use Rattle.cl_core.proofs.EventLaws.{with_event, with_turn_is}
 use Rattle.cl_core.proofs.MapLaws.{remove_absent}
-use Rattle.cl_core.proofs.ShortLaws.{AsksFit, HappensFit, events_fit}
+use Rattle.cl_core.proofs.WithinLaws.{HappensWithin, events_within}
 
 plain_is : (entry : Entry) (value : List ℕ) (held : Value) (deadline : Option ℕ) → entry ≡ record { value = held; deadline = deadline } → is_plain held deadline value ≡ true → entry ≡ plain_string value
-plain_is entry value (Str old) None is e = is ∙ ap (λ bytes. plain_string bytes) ((bytes_eq-Decides old value).0 e)
-plain_is entry value (Str old) (Some deadline) is e = absurd (cc)
+plain_is entry value (kind.Str old) None is e = is ∙ ap (λ bytes. plain_string bytes) ((bytes_eq-Decides old value).0 e)
+plain_is entry value (kind.Str old) (Some deadline) is e = absurd (cc)
+plain_is entry value (kind.List items) deadline is e = absurd (cc)
+plain_is entry value (kind.Hash pairs) deadline is e = absurd (cc)
+plain_is entry value (kind.Set members) deadline is e = absurd (cc)
+plain_is entry value (kind.Sorted scores) deadline is e = absurd (cc)
 
 value_is : (found : Option Entry) (value : List ℕ) → is_value found value ≡ true → found ≡ Some (plain_string value)
 value_is None value e = absurd (cc)
@@ -114,21 +121,21 @@ removed_all P (key ∷ keys) store h =
       | false ↦ removed_all P keys (finite.remove store key) h.1
     ]
 
-all_del : (keys : List (List ℕ)) → AllByRecursion (λ key. IsWritable (Del key)) keys → AllByRecursion IsWritable (map Del keys)
+all_del : (keys : List (List ℕ)) → AllByRecursion IsKey keys → AllByRecursion IsRecord (map Del keys)
 all_del [] h = tt
 all_del (key ∷ keys) h = (h.0, all_del keys h.1)
 
-records_fit : (store : Store) (asked : Request) → AsksFit asked → AllByRecursion IsWritable (records_of store asked)
+records_fit : (store : Store) (asked : Request) → IsWithin asked → AllByRecursion IsRecord (records_of store asked)
 records_fit store request.Ping h = tt
 records_fit store (request.Echo message) h = tt
 records_fit store (request.Set key value) h =
-    elim (is_value (finite.get store key) value) as (λ b. AllByRecursion IsWritable (cond b [] (Set key value ∷ []))) [ true ↦ tt | false ↦ (h, tt) ]
+    elim (is_value (finite.get store key) value) as (λ b. AllByRecursion IsRecord (cond b [] (Set key value ∷ []))) [ true ↦ tt | false ↦ (h, tt) ]
 records_fit store (request.Get key) h = tt
-records_fit store (request.Del keys) h = all_del (removed store keys) (removed_all (λ key. IsWritable (Del key)) keys store h)
+records_fit store (request.Del keys) h = all_del (removed store keys) (removed_all IsKey keys store h)
 records_fit store request.Quit h = tt
 records_fit store (request.Refused why) h = tt
 
-group_is : (records : List Record) → AllByRecursion IsWritable records → AllByRecursion IsGroup (group_of records)
+group_is : (records : List Record) → AllByRecursion IsRecord records → AllByRecursion IsGroup (group_of records)
 group_is [] h = tt
 group_is (one ∷ []) h = (record { some = omega arith; one = λ _. refl; each = h }, tt)
 group_is (one ∷ other ∷ records) h = (record { some = omega arith; one = λ e. absurd (cc); each = h }, tt)
@@ -137,7 +144,7 @@ all-append : (xs ys : List Group) → AllByRecursion IsGroup xs → AllByRecursi
 all-append [] ys h k = k
 all-append (x ∷ xs) ys h k = (h.0, all-append xs ys h.1 k)
 
-events_make : (events : List Event) (run : Run) → AllByRecursion IsGroup run.groups → AllByRecursion HappensFit events → AllByRecursion IsGroup (fold with_event run events).groups
+events_make : (events : List Event) (run : Run) → AllByRecursion IsGroup run.groups → AllByRecursion HappensWithin events → AllByRecursion IsGroup (fold with_event run events).groups
 events_make [] run made h = made
 events_make (Asked client asked ∷ events) run made h =
     events_make events (with_request client run asked) (all-append run.groups _ made (group_is (records_of run.state.store asked) (records_fit run.state.store asked h.0))) h.1
@@ -149,7 +156,7 @@ module _ (reads : (text : List ℕ) → IsReadingOf text (reading text)) where
   turns_make [] run made = made
   turns_make (turn ∷ turns) run made =
       turns_make turns (with_turn run turn) (subst (λ r. AllByRecursion IsGroup r.groups) (sym (with_turn_is run turn))
-      (events_make (events_by turn.what turn.client run.state.clients) run made (events_fit reads turn.what turn.client run.state.clients)))
+      (events_make (events_by turn.what turn.client run.state.clients) run made (events_within reads turn.what turn.client run.state.clients)))
 
   pub groups_made : (state : State) (turns : List Turn) → AllByRecursion IsGroup (run_from state turns).groups
   groups_made state turns = turns_make turns (silent state) tt

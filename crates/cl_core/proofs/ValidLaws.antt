@@ -1,5 +1,5 @@
 -- What stays so from turn to turn.
-use Rattle.std.proofs.Common.{◌≡◌, ℕ, ◌+◌, ◌-◌, ◌≤◌, ◌<◌, nat_lt, arith, Bool, true, false, List, [], ◌∷◌, ◌++◌, Option, Some, None, length, cond, append-nil, refl, sym, ap, subst, ◌∙◌, length-append, is_some}
+use Rattle.std.proofs.Common.{◌≡◌, ℕ, ◌+◌, ◌-◌, ◌≤◌, ◌<◌, nat_lt, arith, Bool, true, false, List, [], ◌++◌, Option, Some, None, cond, refl, sym, ap, subst, ◌∙◌, is_some}
 use borrow.Author.Tests.{ltb-true}
 use Rattle.std.specs.Ordering.{nat_cmp, eq_by_cmp}
 use Rattle.std.specs.Cmp.{nat_cmp_total}
@@ -13,9 +13,10 @@ use Rattle.rs_outside.specs.declared.turn.What.TheVariants.{Opened, Piece, Close
 use Rattle.ks_space.specs.declared.entry.Entry.{Entry}
 use Rattle.cl_core.specs.Machine.{Clients, State, beginning, silent, quits, asked_in, step}
 use Rattle.cl_core.specs.History.{events_by, keeping, clients_piece, clients_by}
-use Rattle.cl_core.specs.Valid.{AreValid, AreShort, IsValid}
+use Rattle.ks_space.specs.Store.{IsStore}
+use Rattle.cl_core.specs.Valid.{AreValid, IsValid}
 use Rattle.cl_core.proofs.EventLaws.{turn_is}
-use Rattle.cl_core.proofs.ShortLaws.{events_fit, fold_short}
+use Rattle.cl_core.proofs.WithinLaws.{events_within, fold_short}
 
 less : (n most : ℕ) (b : Bool) (m : ℕ) → m ≡ cond b (n - 1) n → n ≤ most → m ≤ most
 less n most true m e le = omega arith
@@ -79,8 +80,8 @@ module _ (left_waits : (text : List ℕ) (forms : List Form) (left : List ℕ) �
     pub step_valid : ((text : List ℕ) → IsReadingOf text (reading text)) → (state : State) (turn : Turn) → IsValid state → IsValid (step state turn).state
     step_valid reads state turn valid = record {
       clients = subst (λ run. AreValid run.state.clients) (sym (turn_is (silent state) turn)) (turn_by_valid turn.what state.clients turn.client valid.clients);
-      store = subst (λ run. AreShort run.state.store) (sym (turn_is (silent state) turn))
-          (fold_short (events_by turn.what turn.client state.clients) (silent state) valid.store (events_fit reads turn.what turn.client state.clients));
+      store = subst (λ run. IsStore run.state.store) (sym (turn_is (silent state) turn))
+          (fold_short (events_by turn.what turn.client state.clients) (silent state) valid.store (events_within reads turn.what turn.client state.clients));
     }
 
 pub time_rises : (state : State) (turn : Turn) → state.time ≤ (step state turn).state.time

@@ -7,21 +7,26 @@ use Rattle.resp_reply.specs.declared.reply.Reply.TheVariants as reply
 use Rattle.ks_space.specs.declared.entry.Entry.{Entry}
 use Rattle.ks_space.specs.declared.entry.Value.{Value}
 use Rattle.ks_space.specs.declared.entry.Value.TheVariants.{Str}
-use Rattle.ks_space.specs.declared.record.Record.{Record}
-use Rattle.ks_space.specs.declared.record.Record.TheVariants.{Set, Del}
-use Rattle.ks_space.specs.Store.{plain_string}
+use Rattle.fx_record.specs.declared.record.Record.{Record}
+use Rattle.fx_record.specs.declared.record.Record.TheVariants.{Set, Del}
+use Rattle.fx_record.specs.Records.{string_entry}
 pub use Rattle.ks_space.specs.Store.{Store}
 use Rattle.cl_core.specs.declared.request.Request.{Request}
 use Rattle.cl_core.specs.declared.request.Request.TheVariants as request
 use Rattle.cl_core.specs.Requests.{refusal_text}
 
--- what a string holds
-abbrev pub string_of : Value → List ℕ
-string_of (Str bytes) = bytes
+-- a string as it is; a value of another kind is refused
+abbrev pub string_or_refusal : Value → Reply
+string_or_refusal (Str bytes) = reply.Bulk bytes
+string_or_refusal _ = reply.Fault (codes "WRONGTYPE Operation against a key holding the wrong kind of value")
 
 abbrev pub bulk_or_null : Option Entry → Reply
-bulk_or_null (Some entry) = reply.Bulk (string_of entry.value)
+bulk_or_null (Some entry) = string_or_refusal entry.value
 bulk_or_null None = reply.NullBulk
+
+-- this string, without a deadline
+abbrev pub plain_string : List ℕ → Entry
+plain_string value = string_entry value None
 
 -- the keys that are there, each once, as they leave one by one
 abbrev pub removed : Store → List (List ℕ) → List (List ℕ)
@@ -47,6 +52,7 @@ store_after store _ = store
 abbrev pub is_plain : Value → Option ℕ → List ℕ → Bool
 is_plain (Str old) None value = bytes_eq old value
 is_plain (Str old) (Some deadline) value = false
+is_plain _ deadline value = false
 
 -- it is there
 abbrev pub is_value : Option Entry → List ℕ → Bool

@@ -17,10 +17,9 @@ use Rattle.cl_core.specs.declared.request.Request.{Request}
 use Rattle.cl_core.specs.declared.request.Request.TheVariants as request
 use Rattle.cl_core.specs.Requests.{refusal_text}
 use Rattle.ks_space.specs.declared.entry.Entry.{Entry}
-use Rattle.ks_space.specs.declared.record.Record.{Record}
-use Rattle.ks_space.specs.declared.record.Record.TheVariants.{Set, Del}
-use Rattle.ks_space.specs.Store.{plain_string}
-use Rattle.cl_core.specs.Answers.{bulk_or_null, is_value}
+use Rattle.fx_record.specs.declared.record.Record.{Record}
+use Rattle.fx_record.specs.declared.record.Record.TheVariants.{Set, Del}
+use Rattle.cl_core.specs.Answers.{bulk_or_null, plain_string, is_value}
 use Rattle.cl_core.specs.Machine.{Clients, Run, reply_row, group_of, up_to_quit, quits, protocol_error, asked_in, too_many_clients}
 
 -- what happens to a client: it asks something, it is told why it is shut, it is shut

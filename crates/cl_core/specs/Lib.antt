@@ -1,6 +1,7 @@
 pub use Rattle.resp_read.specs.Frames
 pub use Rattle.resp_read.specs.Reading
 pub use Rattle.ks_space.specs.Store
+pub use Rattle.fx_record.specs.Records
 pub use Rattle.fx_log.specs.Groups
 pub mod Requests
 pub mod Answers

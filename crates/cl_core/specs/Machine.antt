@@ -17,7 +17,7 @@ use Rattle.rs_outside.specs.declared.turn.What.TheVariants.{Opened, Piece, Close
 use Rattle.rs_outside.specs.declared.turn.OutRow.{OutRow}
 use Rattle.rs_outside.specs.declared.turn.OutRow.TheVariants.{Sent, Shut}
 use Rattle.fx_log.specs.declared.group.Group.{Group}
-use Rattle.ks_space.specs.declared.record.Record.{Record}
+use Rattle.fx_record.specs.declared.record.Record.{Record}
 use Rattle.ks_space.specs.contracts.entry.Entry as entry
 use Rattle.cl_core.specs.declared.request.Request.{Request}
 use Rattle.cl_core.specs.Requests.{request_of, is_quit}

@@ -1,7 +1,9 @@
 -- What a command asks for, by its words (Redis manual, commands by name).
 use Rattle.std.specs.Prelude.{ℕ, Bool, true, false, if◌then◌else◌, List, [], ◌∷◌, ◌++◌, Option, Some, None, map, take, codes}
 use Rattle.std.specs.Char.{to_ascii_lowercase}
+use Rattle.std.specs.List.{AllByRecursion}
 use Rattle.std.specs.Str.{bytes_eq}
+use Rattle.ks_space.specs.Store.{IsShort, IsKey}
 use Rattle.cl_core.specs.declared.request.CommandName.{CommandName}
 use Rattle.cl_core.specs.declared.request.CommandName.TheVariants as command
 use Rattle.cl_core.specs.declared.request.Request.{Request}
@@ -67,3 +69,9 @@ refusal_text refusal.Syntax = codes "ERR syntax error"
 abbrev pub is_quit : Request → Bool
 is_quit request.Quit = true
 is_quit _ = false
+
+-- what a request sets or removes is within the limits of a store
+abbrev pub IsWithin : Request → Type 0
+IsWithin (request.Set key value) = IsKey key × IsShort value
+IsWithin (request.Del keys) = AllByRecursion IsKey keys
+IsWithin _ = Unit {0}

@@ -2,13 +2,14 @@ ghost use Rattle.std.specs.Prelude.{◌≡◌, ◌++◌, map, fold, OnOk, IfOk};
 ghost use Rattle.std.specs.FinMap as finite;
 ghost use Rattle.cl_core.specs.declared.request.Request.{Request};
 ghost use Rattle.cl_core.specs.Requests.{refusal_text};
-ghost use Rattle.ks_space.specs.declared.record.Record.{Record};
-ghost use Rattle.ks_space.specs.Store.{plain_string};
-ghost use Rattle.cl_core.specs.Answers.{bulk_or_null, reply_to, store_after, records_of, removed, is_value, is_plain};
+ghost use Rattle.fx_record.specs.declared.record.Record.{Record};
+ghost use Rattle.ks_space.specs.Store.{IsKey, IsShort};
+ghost use Rattle.cl_core.specs.Requests.{IsWithin};
+ghost use Rattle.cl_core.specs.Answers.{plain_string, string_or_refusal, bulk_or_null, reply_to, store_after, records_of, removed, is_value, is_plain};
 
 use crate::{Refusal, Request};
-use fx_log::Effects;
-use ks_space::{Entry, Record, Space, Value};
+use fx_log::{Effects, Record};
+use ks_space::{Entry, Space, Value};
 use resp_reply::Reply;
 use rs_base::{Bytes, NoMemory, Words};
 use std::alloc::Global;
@@ -21,6 +22,7 @@ pub fn answer(
     request: Request,
     records: &mut Effects,
 ) -> Result<Reply, NoMemory>
+    requires { IsWithin request }
     ensures reply { IfOk result (λ reply. reply ≡ reply_to store.old request) }
     ensures store { OnOk result (store.new ≡ store_after store.old request) }
     ensures records { OnOk result (records.new ≡ records.old ++ records_of store.old request) }
@@ -63,6 +65,8 @@ fn set(
     value: Bytes,
     records: &mut Effects,
 ) -> Result<Reply, NoMemory>
+    requires key { IsKey key }
+    requires value { IsShort value }
     ensures reply { IfOk result (λ reply. reply ≡ reply_to store.old (Request.Set key value)) }
     ensures store { OnOk result (store.new ≡ store_after store.old (Request.Set key value)) }
     ensures records { OnOk result (records.new ≡ records.old ++ records_of store.old (Request.Set key value)) }
@@ -100,10 +104,9 @@ fn has_value(store: &Space, key: &Bytes, value: &Bytes) -> bool
 fn is_plain(entry: &Entry, value: &Bytes) -> bool
     ensures { result ≡ is_plain entry.now.value entry.now.deadline value.now }
 {
-    let Value::Str(old) = &entry.value;
-    match entry.deadline {
-        Some(_) => false,
-        None => old == value,
+    match (&entry.value, entry.deadline) {
+        (Value::Str(old), None) => old == value,
+        _ => false,
     }
 }
 
@@ -111,11 +114,20 @@ fn get(alloc: Global, store: &Space, key: &Bytes) -> Result<Reply, NoMemory>
     ensures { IfOk result (λ reply. reply ≡ bulk_or_null (finite.get store.now key.now)) }
 {
     match store.get(key.as_slice()) {
-        Some(entry) => {
-            let Value::Str(bytes) = &entry.value;
-            Reply::bulk(alloc, bytes.as_slice())
-        }
+        Some(entry) => string_or_refusal(alloc, &entry.value),
         None => Ok(Reply::NullBulk),
+    }
+}
+
+fn string_or_refusal(alloc: Global, value: &Value) -> Result<Reply, NoMemory>
+    ensures { IfOk result (λ reply. reply ≡ string_or_refusal value.now) }
+{
+    match value {
+        Value::Str(bytes) => Reply::bulk(alloc, bytes.as_slice()),
+        _ => Reply::fault(
+            alloc,
+            b"WRONGTYPE Operation against a key holding the wrong kind of value",
+        ),
     }
 }
 
@@ -143,7 +155,7 @@ fn remove_all(alloc: Global, store: &mut Space, keys: Words) -> Result<Words, No
     let mut gone = Words::new(alloc);
     let mut left = VecDeque::from_vec(keys.into_vec());
     while let Some(key) = left.pop_front() {
-        if store.take(key.as_slice())?.is_some() {
+        if store.take(key.as_slice()).is_some() {
             gone.push(key)?;
         }
     }

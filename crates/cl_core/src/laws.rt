@@ -1,7 +1,7 @@
 ghost use Rattle.std.specs.Prelude.{◌≡◌, ◌++◌, ℕ, ◌≤◌, List};
 ghost use Rattle.std.specs.Prelude.{fold};
 ghost use Rattle.std.specs.List.{AllByRecursion};
-ghost use Rattle.ks_space.specs.Store.{apply};
+ghost use Rattle.fx_record.specs.Records.{apply};
 ghost use Rattle.fx_log.specs.Groups.{IsGroup};
 ghost use Rattle.fx_log.specs.Dump.{records_in};
 ghost use Rattle.rs_outside.specs.declared.turn.Turn.{Turn};

@@ -2,7 +2,9 @@ ghost use Rattle.std.specs.Prelude.{◌≡◌, List, [], ◌∷◌, ◌++◌, ma
 ghost use Rattle.std.specs.FinMap as finite;
 ghost use Rattle.resp_reply.specs.Replies.{reply_text};
 ghost use Rattle.cl_core.specs.declared.request.Request.{Request};
-ghost use Rattle.cl_core.specs.Requests.{request_of};
+ghost use Rattle.std.specs.List.{AllByRecursion};
+ghost use Rattle.resp_read.specs.Frames.{IsCommand};
+ghost use Rattle.cl_core.specs.Requests.{request_of, IsWithin};
 ghost use Rattle.rs_outside.specs.declared.turn.Go.{Go};
 ghost use Rattle.rs_outside.specs.declared.turn.OutRow.{OutRow};
 ghost use Rattle.fx_log.specs.declared.group.Group.{Group};
@@ -14,7 +16,7 @@ use crate::client::{Client, Clients, Fed, MAX_CLIENTS};
 use crate::laws::turns_keep_validity;
 use fx_log::{Effects, Group, Groups};
 use ks_space::Space;
-use resp_read::{BadFrame, Commands};
+use resp_read::{BadFrame, Commands, reading_is_the_grammar};
 use resp_reply::{Reply, put};
 use rs_base::{Bytes, NoMemory};
 use rs_outside::{Go, OutRow, Outs, Turn, What};
@@ -136,6 +138,7 @@ impl Server {
         ensures { OnOk result (record { state = self.new; rows = outs.new; groups = groups.new }
             ≡ piece_of client bytes.now (finite.get self.old.clients client) (record { state = self.old; rows = outs.old; groups = groups.old })) }
     {
+        reading_is_the_grammar();
         let Some(reader) = self.clients.take(client) else {
             return Ok(());
         };
@@ -154,6 +157,7 @@ impl Server {
         outs: &mut Outs,
         groups: &mut Groups,
     ) -> Result<(), NoMemory>
+        requires { AllByRecursion IsCommand (map (λ c. c.words) commands) }
         ensures { OnOk result (record { state = self.new; rows = outs.new; groups = groups.new }
             ≡ put_back client reader (map (λ c. request_of c.words) commands) (record { state = self.old; rows = outs.old; groups = groups.old })) }
     {
@@ -174,6 +178,7 @@ impl Server {
         outs: &mut Outs,
         groups: &mut Groups,
     ) -> Result<(), NoMemory>
+        requires { AllByRecursion IsCommand (map (λ c. c.words) commands) }
         ensures { OnOk result (record { state = self.new; rows = outs.new; groups = groups.new }
             ≡ told_of client kind (map (λ c. request_of c.words) commands) (record { state = self.old; rows = outs.old; groups = groups.old })) }
     {
@@ -193,6 +198,7 @@ impl Server {
         outs: &mut Outs,
         groups: &mut Groups,
     ) -> Result<bool, NoMemory>
+        requires { AllByRecursion IsCommand (map (λ c. c.words) commands) }
         ensures going { IfOk result (λ going. going ≡ not (quits (map (λ c. request_of c.words) commands))) }
         ensures run { OnOk result (record { state = self.new; rows = outs.new; groups = groups.new }
             ≡ fold (with_request client) (record { state = self.old; rows = outs.old; groups = groups.old }) (up_to_quit (map (λ c. request_of c.words) commands))) }
@@ -217,6 +223,7 @@ impl Server {
         outs: &mut Outs,
         groups: &mut Groups,
     ) -> Result<(), NoMemory>
+        requires { IsWithin request }
         ensures { OnOk result (record { state = self.new; rows = outs.new; groups = groups.new }
             ≡ with_request client (record { state = self.old; rows = outs.old; groups = groups.old }) request) }
     {

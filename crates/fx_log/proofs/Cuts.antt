@@ -5,13 +5,13 @@ use Rattle.std.proofs.lemmas.Bool.{cases_order}
 use Rattle.std.proofs.lemmas.Grind.{flat_map-append}
 use Rattle.std.proofs.lemmas.List.{take-append-le, take-append-drop}
 use Rattle.std.proofs.Math.Seq.{take-append_seam}
-use Rattle.ks_space.specs.declared.record.Record.{Record}
-use Rattle.ks_space.specs.RecordWords.{words_of}
+use Rattle.fx_record.specs.declared.record.Record.{Record}
+use Rattle.fx_record.specs.RecordWords.{words_of, IsRecord}
 use Rattle.resp_read.specs.Frames.{Form, Given, EmptyArray, NegativeArray, IsRow, row_text, frame, Begins, LongestRow, commands_in, commands_from}
 use Rattle.resp_read.specs.Reading.{Reading, Unfinished, Broken, reading, behind_forms, IsReadingOf}
 use Rattle.fx_log.specs.declared.group.Group.{Group}
 use Rattle.fx_log.specs.Groups.{group_text, log_text, IsGroup}
-use Rattle.fx_log.specs.Items.{multi, exec, Item, Bare, Wrapped, item_words, row_words, open_words}
+use Rattle.fx_log.specs.Items.{multi, exec, Item, Bare, Wrapped, IsItem, IsOpen, item_words, row_words, open_words}
 use Rattle.fx_log.specs.Logs.{IsLog, IsGroups, IsPart, IsCut, HasBadPlace}
 use Rattle.fx_log.proofs.LogLaws.{empty-row}
 use Rattle.fx_log.proofs.Staying.{ReadsText, GoesOnText}
@@ -120,24 +120,24 @@ two-fronts (x ∷ xs) ys (a ∷ firsts) rest e = with_later (two-fronts xs ys fi
     with_later (Shorter next more is) = Shorter next more (ap (λ zs. a ∷ zs) is ∙ ap (λ y. y ∷ (xs ++ next ∷ more)) (sym head))
 
 records-front : (records : List Record) (xs more : List (List (List ℕ))) (next : List (List ℕ)) → map words_of records ++ exec ∷ [] ≡ xs ++ next ∷ more
-    → (some : List Record) × (xs ≡ map words_of some)
-records-front records [] more next e = ([], refl)
-records-front [] (x ∷ []) more next e = absurd (cc)
-records-front [] (x ∷ y ∷ xs) more next e = absurd (cc)
-records-front (effect ∷ records) (x ∷ xs) more next e =
-    let later = records-front records xs more next (cc) in
+    → AllByRecursion IsRecord records → (some : List Record) × (xs ≡ map words_of some) × AllByRecursion IsRecord some
+records-front records [] more next e within = ([], refl, tt)
+records-front [] (x ∷ []) more next e within = absurd (cc)
+records-front [] (x ∷ y ∷ xs) more next e within = absurd (cc)
+records-front (effect ∷ records) (x ∷ xs) more next e within =
+    let later = records-front records xs more next (cc) within.1 in
     let head : x ≡ words_of effect = cc in
-    (effect ∷ later.0, ap (λ w. w ∷ xs) head ∙ ap (λ ws. words_of effect ∷ ws) later.1)
+    (effect ∷ later.0, ap (λ w. w ∷ xs) head ∙ ap (λ ws. words_of effect ∷ ws) later.1, (within.0, later.2))
 
 -- less than the commands of an item is the part of one
-open-front : (item : Item) (xs more : List (List (List ℕ))) (next : List (List ℕ)) → item_words item ≡ xs ++ next ∷ more → (opened : Option (List Record)) × (xs ≡ open_words opened)
-open-front item [] more next e = (None, refl)
-open-front (Bare effect) (x ∷ []) more next e = absurd (cc)
-open-front (Bare effect) (x ∷ y ∷ xs) more next e = absurd (cc)
-open-front (Wrapped records) (x ∷ xs) more next e =
-    let some = records-front records xs more next (cc) in
+open-front : (item : Item) (xs more : List (List (List ℕ))) (next : List (List ℕ)) → item_words item ≡ xs ++ next ∷ more → IsItem item → (opened : Option (List Record)) × (xs ≡ open_words opened) × IsOpen opened
+open-front item [] more next e within = (None, refl, tt)
+open-front (Bare effect) (x ∷ []) more next e within = absurd (cc)
+open-front (Bare effect) (x ∷ y ∷ xs) more next e within = absurd (cc)
+open-front (Wrapped records) (x ∷ xs) more next e within =
+    let some = records-front records xs more next (cc) within in
     let head : x ≡ multi = cc in
-    (Some some.0, ap (λ w. w ∷ xs) head ∙ ap (λ ws. multi ∷ ws) some.1)
+    (Some some.0, ap (λ w. w ∷ xs) head ∙ ap (λ ws. multi ∷ ws) some.1, some.2)
 
 -- what is read of a part
 pub record PartRead (part : List ℕ) : Type 0 where
@@ -146,6 +146,7 @@ pub record PartRead (part : List ℕ) : Type 0 where
   pub opened : Option (List Record)
   pub reading_is : reading part ≡ Unfinished forms left
   pub words_are : commands_in forms ≡ open_words opened
+  pub within : IsOpen opened
 
 unfinished : NotBoth → ReadsText → (text : List ℕ) → Begins text → (forms : List Form) × (left : List ℕ) × (reading text ≡ Unfinished forms left) × LongestRow text forms left
 unfinished not_both reads text begins = by_reading (reading text) refl (reads text)
@@ -165,7 +166,7 @@ part-read one_row not_both reads goes_on [] part more each e is =
     let begins = row-begins [] [] (record { each = tt; text_is = refl }) in
     let read = unfinished not_both reads part (subst Begins (sym is) begins) in
     let same = one_row [] read.0 [] read.1 [] (subst (λ (t : List ℕ). LongestRow t read.0 read.1) is read.3) empty-row in
-    record { forms = read.0; left = read.1; opened = None; reading_is = read.2; words_are = ap commands_in same.0 }
+    record { forms = read.0; left = read.1; opened = None; reading_is = read.2; words_are = ap commands_in same.0; within = tt }
 part-read one_row not_both reads goes_on (group ∷ groups) part more each e is =
     let all = written (group ∷ groups) each in
     let words = row_words (items_of (group ∷ groups)) in
@@ -181,11 +182,11 @@ part-read one_row not_both reads goes_on (group ∷ groups) part more each e is 
     sym (commands-append read.0 front.0) ∙ ap commands_in front.1 ∙ given-commands words in
     let first = group-written group each.0 in
     let text_is : part ≡ flat_map frame xs ++ read.1 = read.3.text_is ∙ ap (λ fs. row_text fs ++ read.1) forms_are ∙ ap (λ t. t ++ read.1) (given-text xs) in
-    by_fronts read.0 read.1 read.2 text_is first.1 (two-fronts xs (commands_in front.0) (item_words (item_of group)) (row_words (items_of groups)) words_join)
+    by_fronts read.0 read.1 read.2 text_is first.1 first.3 (two-fronts xs (commands_in front.0) (item_words (item_of group)) (row_words (items_of groups)) words_join)
   where
     by_fronts : (forms : List Form) (left : List ℕ) → reading part ≡ Unfinished forms left → part ≡ flat_map frame (commands_in forms) ++ left
-        → group_text group ≡ flat_map frame (item_words (item_of group)) → Fronts (commands_in forms) (item_words (item_of group)) → PartRead part
-    by_fronts forms left reading_is text_is group_is (Longer rest is_longer) =
+        → group_text group ≡ flat_map frame (item_words (item_of group)) → IsItem (item_of group) → Fronts (commands_in forms) (item_words (item_of group)) → PartRead part
+    by_fronts forms left reading_is text_is group_is within (Longer rest is_longer) =
         let sizes = ap length text_is in
         let longer = ap (λ ws. length (flat_map frame ws)) is_longer in
         let parts = ap length (flat_map-append frame (item_words (item_of group)) rest) in
@@ -201,9 +202,9 @@ part-read one_row not_both reads goes_on (group ∷ groups) part more each e is 
           length-append (flat_map frame (item_words (item_of group))) (flat_map frame rest),
           is,
         ))
-    by_fronts forms left reading_is text_is group_is (Shorter next rest is_shorter) =
-        let opened = open-front (item_of group) (commands_in forms) rest next is_shorter in
-        record { forms = forms; left = left; opened = opened.0; reading_is = reading_is; words_are = opened.1 }
+    by_fronts forms left reading_is text_is group_is within (Shorter next rest is_shorter) =
+        let opened = open-front (item_of group) (commands_in forms) rest next is_shorter within in
+        record { forms = forms; left = left; opened = opened.0; reading_is = reading_is; words_are = opened.1; within = opened.2 }
 
 cut-log : OneRow → NotBoth → ReadsText → GoesOnText → WordsGiven → (front : List Group) (part more : List ℕ) (groups : List Group) → AllByRecursion IsGroup front
     → AllByRecursion IsGroup groups → (log_text front ++ part) ++ more ≡ log_text groups → (read : PartRead part) → IsLog (log_text front ++ part) (items_of front) read.opened
@@ -221,6 +222,7 @@ cut-log one_row not_both reads goes_on words_given front part more groups each_f
       commands = commands_from 0 (given words ++ read.forms);
       whole = record { forms = given words ++ read.forms; rest = read.left; row = is.0; commands_are = refl };
       begins = begins;
+      within = ((written front each_front).within, read.within);
       words_are = words_given 0 (given words ++ read.forms) ∙ commands-append (given words) read.forms ∙ ap (λ ws. ws ++ commands_in read.forms) (given-commands words)
           ∙ ap (λ ws. words ++ ws) read.words_are;
     }

@@ -1,7 +1,7 @@
 -- What a reader of a log answers to a piece, and what it stands for then.
 use Rattle.std.proofs.Common.{◌≡◌, ℕ, Option, Result, Ok, Err, List, [], ◌++◌, refl, sym, subst}
 use Rattle.std.specs.Result.{IfErr, IsErrAnd}
-use Rattle.ks_space.specs.declared.record.Record.{Record}
+use Rattle.fx_record.specs.declared.record.Record.{Record}
 use Rattle.resp_read.specs.declared.command.Command.{Command}
 use Rattle.resp_read.specs.declared.stops.BadFrame.{BadFrame}
 use Rattle.resp_read.specs.Frames.{IsBadPlace}
@@ -28,7 +28,7 @@ goes-on one_row not_both text piece reader then opened left commands given new s
     let log = stands.1.1 in
     let stood = log-more text piece items opened log commands given left e in
     let log_then : IsLog (text ++ piece) stood.items left =
-    record { commands = log.commands ++ commands; whole = goes.adds log.commands log.whole; begins = goes.begins; words_are = stood.words_are } in
+    record { commands = log.commands ++ commands; whole = goes.adds log.commands log.whole; begins = goes.begins; within = stood.within; words_are = stood.words_are } in
     let stands_then : StandsForLog (state.Reading then left) (text ++ piece) = (goes.stands, (stood.items, log_then)) in
     record {
       stands = subst (λ (s : State). StandsForLog s (text ++ piece)) (sym new_is) stands_then;

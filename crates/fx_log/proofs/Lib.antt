@@ -2,6 +2,8 @@ pub mod GoingOn
 pub mod Cases
 pub mod EntryLaws
 pub mod Runs
+pub mod Within
+pub mod RowTexts
 pub mod Texts
 pub mod Feeding
 pub mod Staying

@@ -17,12 +17,12 @@ abbrev pub empty-begins : Begins []
 empty-begins = ([], [], record { each = tt; text_is = refl })
 
 abbrev pub empty-log : IsLog [] [] None
-empty-log = record { commands = []; whole = record { forms = []; rest = []; row = empty-row; commands_are = refl }; begins = empty-begins; words_are = refl }
+empty-log = record { commands = []; whole = record { forms = []; rest = []; row = empty-row; commands_are = refl }; begins = empty-begins; within = (tt, tt); words_are = refl }
 
 reads-commands : (text : List ℕ) (commands : List Command) → IsWhole text commands → Begins text → (r : LogRead) → read_from [] None commands ≡ r → IsLogReadingOf text r
 reads-commands text commands whole begins (Reads groups opened) e =
     let stood = read-stood commands [] [] None groups opened stood-start e in
-    (stood.items, record { commands = commands; whole = whole; begins = begins; words_are = stood.words_are }, stood.groups_are)
+    (stood.items, record { commands = commands; whole = whole; begins = begins; within = stood.within; words_are = stood.words_are }, stood.groups_are)
 reads-commands text commands whole begins (Breaks groups place kind) e = log-broke [] text [] None empty-log commands groups place kind whole e
 
 reads-broken : (text : List ℕ) (commands : List Command) (at : ℕ) (bad : BadFrame) → IsWhole text commands → IsBad text at bad → (r : LogRead) → read_from [] None commands ≡ r

@@ -1,30 +1,35 @@
 -- Commands read one by one are a row of items and the part of one.
 use Rattle.std.proofs.Common.{◌≡◌, ℕ, true, false, cond, is_some, Option, Some, None, List, [], ◌∷◌, ◌++◌, map, refl, sym, ap, subst, ◌∙◌, append_assoc, append-nil}
+use Rattle.std.specs.List.{AllByRecursion}
 use Rattle.std.proofs.lemmas.Grind.{flat_map-append}
 use Rattle.std.proofs.lemmas.List.{map-append}
-use Rattle.ks_space.specs.declared.record.Record.{Record}
-use Rattle.ks_space.specs.declared.record.Record.TheVariants.{Set, Del}
-use Rattle.ks_space.specs.RecordWords.{words_of}
+use Rattle.fx_record.specs.declared.record.Record.{Record}
+use Rattle.fx_record.specs.RecordWords.{words_of, IsRecord}
 use Rattle.resp_read.specs.declared.command.Command.{Command}
 use Rattle.fx_log.proofs.Cases.{by_test, either_way}
 use Rattle.fx_log.specs.declared.entry.Entry.{Entry}
 use Rattle.fx_log.specs.declared.entry.Entry.TheVariants.{Begin, End, Effect, Other}
 use Rattle.fx_log.specs.declared.group.Group.{Group}
 use Rattle.fx_log.specs.declared.stops.LogKind.{LogKind}
-use Rattle.fx_log.specs.Items.{multi, exec, Item, Bare, Wrapped, item_words, row_words, open_words, BeginsItems, item_groups, groups_of}
+use Rattle.fx_log.specs.Items.{multi, exec, Item, Bare, Wrapped, item_words, row_words, IsItem, AreItems, IsOpen, open_words, BeginsItems, item_groups, groups_of}
 use Rattle.fx_log.specs.Entries.{entry_of, fits, kind_of, groups_at, open_after}
 use Rattle.fx_log.specs.Logs.{words_in, StopsItems, Splits}
 use Rattle.fx_log.specs.Reading.{LogRead, Reads, Breaks, read_from}
-use Rattle.fx_log.proofs.EntryLaws.{AreWordsOf, entry-words}
+use Rattle.fx_log.proofs.EntryLaws.{AreWordsOf, entry-record, entry-words}
 
 -- commands with these words are these groups and the part of an item
 pub record Stood (words : List (List (List ℕ))) (groups : List Group) (opened : Option (List Record)) : Type 0 where
   pub items : List Item
+  pub within : AreItems items × IsOpen opened
   pub words_are : words ≡ row_words items ++ open_words opened
   pub groups_are : groups ≡ groups_of items
 
+pub each-append : {X : Type 0} (P : X → Type 0) (xs ys : List X) → AllByRecursion P xs → AllByRecursion P ys → AllByRecursion P (xs ++ ys)
+each-append P [] ys front back = back
+each-append P (x ∷ xs) ys front back = (front.0, each-append P xs ys front.1 back)
+
 pub stood-start : Stood [] [] None
-stood-start = record { items = []; words_are = refl; groups_are = refl }
+stood-start = record { items = []; within = (tt, tt); words_are = refl; groups_are = refl }
 
 begin-at : (items : List Item) → (row_words items ++ []) ++ multi ∷ [] ≡ row_words items ++ open_words (Some [])
 begin-at items = ap (λ ws. ws ++ multi ∷ []) (append-nil (row_words items))
@@ -54,34 +59,39 @@ pub stood-more : (words : List (List (List ℕ))) (w : List (List ℕ)) (groups 
     → fits (is_some opened) entry ≡ true → Stood words groups opened → Stood (words ++ w ∷ []) (groups ++ groups_at opened entry) (open_after opened entry)
 stood-more words w groups None Begin is fit stood = record {
   items = stood.items;
+  within = (stood.within.0, tt);
   words_are = ap (λ ws. ws ++ w ∷ []) stood.words_are ∙ ap (λ v. (row_words stood.items ++ []) ++ v ∷ []) is ∙ begin-at stood.items;
   groups_are = append-nil groups ∙ stood.groups_are;
 }
 stood-more words w groups None End is fit stood = absurd (cc)
 stood-more words w groups None (Effect effect) is fit stood = record {
   items = stood.items ++ Bare effect ∷ [];
-  words_are = ap (λ ws. ws ++ w ∷ []) stood.words_are ∙ ap (λ v. (row_words stood.items ++ []) ++ v ∷ []) is ∙ bare-at stood.items effect;
+  within = (each-append IsItem stood.items (Bare effect ∷ []) stood.within.0 (is.1, tt), tt);
+  words_are = ap (λ ws. ws ++ w ∷ []) stood.words_are ∙ ap (λ v. (row_words stood.items ++ []) ++ v ∷ []) is.0 ∙ bare-at stood.items effect;
   groups_are = ap (λ gs. gs ++ item_groups (Bare effect)) stood.groups_are ∙ sym (groups-more stood.items (Bare effect));
 }
 stood-more words w groups None Other is fit stood = absurd (cc)
 stood-more words w groups (Some records) Begin is fit stood = absurd (cc)
 stood-more words w groups (Some records) End is fit stood = record {
   items = stood.items ++ Wrapped records ∷ [];
+  within = (each-append IsItem stood.items (Wrapped records ∷ []) stood.within.0 (stood.within.1, tt), tt);
   words_are = ap (λ ws. ws ++ w ∷ []) stood.words_are ∙ ap (λ v. (row_words stood.items ++ open_words (Some records)) ++ v ∷ []) is ∙ end-at stood.items records;
   groups_are = ap (λ gs. gs ++ item_groups (Wrapped records)) stood.groups_are ∙ sym (groups-more stood.items (Wrapped records));
 }
 stood-more words w groups (Some records) (Effect effect) is fit stood = record {
   items = stood.items;
-  words_are = ap (λ ws. ws ++ w ∷ []) stood.words_are ∙ ap (λ v. (row_words stood.items ++ open_words (Some records)) ++ v ∷ []) is ∙ more-at stood.items records effect;
+  within = (stood.within.0, each-append IsRecord records (effect ∷ []) stood.within.1 (is.1, tt));
+  words_are = ap (λ ws. ws ++ w ∷ []) stood.words_are ∙ ap (λ v. (row_words stood.items ++ open_words (Some records)) ++ v ∷ []) is.0 ∙ more-at stood.items records effect;
   groups_are = append-nil groups ∙ stood.groups_are;
 }
 stood-more words w groups (Some records) Other is fit stood = absurd (cc)
 
 pub stood-begins : (words : List (List (List ℕ))) (groups : List Group) (opened : Option (List Record)) → Stood words groups opened → BeginsItems words
-stood-begins words groups None stood = ([], stood.items, ap (λ ws. ws ++ []) stood.words_are ∙ append-nil (row_words stood.items ++ []) ∙ append-nil (row_words stood.items))
+stood-begins words groups None stood = ([], stood.items, stood.within.0, ap (λ ws. ws ++ []) stood.words_are ∙ append-nil (row_words stood.items ++ []) ∙ append-nil (row_words stood.items))
 stood-begins words groups (Some records) stood = (
   exec ∷ [],
   stood.items ++ Wrapped records ∷ [],
+  each-append IsItem stood.items (Wrapped records ∷ []) stood.within.0 (stood.within.1, tt),
   ap (λ ws. ws ++ exec ∷ []) stood.words_are ∙ end-at stood.items records ∙ append-nil (row_words (stood.items ++ Wrapped records ∷ [])),
 )
 
@@ -142,44 +152,46 @@ same-words (x ∷ xs) (y ∷ ys) groups opened given left same e =
     e in
     subst (λ (w : List (List ℕ)). read_from groups opened (record { words = w; place = y.place } ∷ ys) ≡ Reads given left) head at_x
 
-read-effect : (groups : List Group) (opened : Option (List Record)) (effect : Record) (rest : List (List (List ℕ)))
+read-effect : (groups : List Group) (opened : Option (List Record)) (effect : Record) (rest : List (List (List ℕ))) → IsRecord effect
     → read_from groups opened (plain (words_of effect ∷ rest)) ≡ read_from (groups ++ groups_at opened (Effect effect)) (open_after opened (Effect effect)) (plain rest)
-read-effect groups opened (Set key value) rest = refl
-read-effect groups opened (Del key) rest = refl
+read-effect groups opened effect rest within =
+    ap
+    (λ entry. cond (fits (is_some opened) entry) (read_from (groups ++ groups_at opened entry) (open_after opened entry) (plain rest)) (Breaks groups 0 (kind_of entry)))
+    (entry-record effect within)
 
-records-read : (records before : List Record) (groups : List Group) (rest : List (List (List ℕ)))
+records-read : (records before : List Record) (groups : List Group) (rest : List (List (List ℕ))) → AllByRecursion IsRecord records
     → read_from groups (Some before) (plain (map words_of records ++ rest)) ≡ read_from groups (Some (before ++ records)) (plain rest)
-records-read [] before groups rest = ap (λ rs. read_from groups (Some rs) (plain rest)) (sym (append-nil before))
-records-read (effect ∷ records) before groups rest =
-    read-effect groups (Some before) effect (map words_of records ++ rest)
+records-read [] before groups rest within = ap (λ rs. read_from groups (Some rs) (plain rest)) (sym (append-nil before))
+records-read (effect ∷ records) before groups rest within =
+    read-effect groups (Some before) effect (map words_of records ++ rest) within.0
     ∙ ap (λ gs. read_from gs (Some (before ++ effect ∷ [])) (plain (map words_of records ++ rest))) (append-nil groups)
-    ∙ records-read records (before ++ effect ∷ []) groups rest
+    ∙ records-read records (before ++ effect ∷ []) groups rest within.1
     ∙ ap (λ rs. read_from groups (Some rs) (plain rest)) (append_assoc before (effect ∷ []) records)
 
-item-reads : (item : Item) (groups : List Group) → read_from groups None (plain (item_words item)) ≡ Reads (groups ++ item_groups item) None
-item-reads (Bare effect) groups = read-effect groups None effect []
-item-reads (Wrapped records) groups =
+item-reads : (item : Item) (groups : List Group) → IsItem item → read_from groups None (plain (item_words item)) ≡ Reads (groups ++ item_groups item) None
+item-reads (Bare effect) groups within = read-effect groups None effect [] within
+item-reads (Wrapped records) groups within =
     ap (λ gs. read_from gs (Some []) (plain (map words_of records ++ exec ∷ []))) (append-nil groups)
-    ∙ records-read records [] groups (exec ∷ [])
+    ∙ records-read records [] groups (exec ∷ []) within
 
 plain-append : (xs ys : List (List (List ℕ))) → plain (xs ++ ys) ≡ plain xs ++ plain ys
 plain-append xs ys = map-append (λ (w : List (List ℕ)). record { words = w; place = 0 }) xs ys
 
-pub row-reads : (items : List Item) (groups : List Group) → read_from groups None (plain (row_words items)) ≡ Reads (groups ++ groups_of items) None
-row-reads [] groups = ap (λ gs. Reads gs None) (sym (append-nil groups))
-row-reads (item ∷ items) groups =
+pub row-reads : (items : List Item) (groups : List Group) → AreItems items → read_from groups None (plain (row_words items)) ≡ Reads (groups ++ groups_of items) None
+row-reads [] groups within = ap (λ gs. Reads gs None) (sym (append-nil groups))
+row-reads (item ∷ items) groups within =
     ap (read_from groups None) (plain-append (item_words item) (row_words items))
     ∙ read-append groups None (plain (item_words item)) (plain (row_words items))
-    ∙ ap (λ r. and_then r (plain (row_words items))) (item-reads item groups)
-    ∙ row-reads items (groups ++ item_groups item)
+    ∙ ap (λ r. and_then r (plain (row_words items))) (item-reads item groups within.0)
+    ∙ row-reads items (groups ++ item_groups item) within.1
     ∙ ap (λ gs. Reads gs None) (append_assoc groups (item_groups item) (groups_of items))
 
-open-reads : (opened : Option (List Record)) (groups : List Group) → read_from groups None (plain (open_words opened)) ≡ Reads groups opened
-open-reads None groups = refl
-open-reads (Some records) groups =
+open-reads : (opened : Option (List Record)) (groups : List Group) → IsOpen opened → read_from groups None (plain (open_words opened)) ≡ Reads groups opened
+open-reads None groups within = refl
+open-reads (Some records) groups within =
     ap (λ gs. read_from gs (Some []) (plain (map words_of records))) (append-nil groups)
     ∙ ap (λ ws. read_from groups (Some []) (plain ws)) (sym (append-nil (map words_of records)))
-    ∙ records-read records [] groups []
+    ∙ records-read records [] groups [] within
 
 pub stood-reads : (words : List (List (List ℕ))) (groups : List Group) (opened : Option (List Record)) → Stood words groups opened
     → read_from [] None (plain words) ≡ Reads groups opened
@@ -187,15 +199,15 @@ stood-reads words groups opened stood =
     ap (λ ws. read_from [] None (plain ws)) stood.words_are
     ∙ ap (read_from [] None) (plain-append (row_words stood.items) (open_words opened))
     ∙ read-append [] None (plain (row_words stood.items)) (plain (open_words opened))
-    ∙ ap (λ r. and_then r (plain (open_words opened))) (row-reads stood.items [])
-    ∙ open-reads opened (groups_of stood.items)
+    ∙ ap (λ r. and_then r (plain (open_words opened))) (row-reads stood.items [] stood.within.0)
+    ∙ open-reads opened (groups_of stood.items) stood.within.1
     ∙ ap (λ gs. Reads gs opened) (sym stood.groups_are)
 
 -- an entry that does not fit
 pub stood-bad : (words : List (List (List ℕ))) (w : List (List ℕ)) (groups : List Group) (opened : Option (List Record)) → Stood words groups opened
     → fits (is_some opened) (entry_of w) ≡ false → BeginsItems (words ++ w ∷ []) → ⊥
-stood-bad words w groups opened stood no_fit (more, items, e) =
-    let whole = row-reads items [] in
+stood-bad words w groups opened stood no_fit (more, items, within, e) =
+    let whole = row-reads items [] within in
     let broke = Breaks groups 0 (kind_of (entry_of w)) in
     let at_word : read_from groups opened (plain (w ∷ [])) ≡ broke =
     ap (λ t. cond t (Reads (groups ++ groups_at opened (entry_of w)) (open_after opened (entry_of w))) broke) no_fit in
@@ -235,14 +247,14 @@ stopped-fits words w groups opened stood stops = by_test
 pub splits-read : (commands front rest : List Command) (items : List Item) (opened : Option (List Record)) → Splits commands front rest items opened
     → read_from [] None commands ≡ split_read items opened rest
 splits-read commands front rest items opened splits =
-    let stood : Stood (words_in front) (groups_of items) opened = record { items = items; words_are = splits.front_is; groups_are = refl } in
+    let stood : Stood (words_in front) (groups_of items) opened = record { items = items; within = splits.within; words_are = splits.front_is; groups_are = refl } in
     ap (read_from [] None) splits.commands_are ∙ read-append [] None front rest ∙ ap (λ r. and_then r rest) (stood-commands front (groups_of items) opened stood)
     ∙ by_rest rest splits.stops
   where
     by_rest : (rest : List Command) → StopsItems (words_in front) rest → read_from (groups_of items) opened rest ≡ split_read items opened rest
     by_rest [] stops = refl
     by_rest (command ∷ rest) stops =
-        let stood : Stood (words_in front) (groups_of items) opened = record { items = items; words_are = splits.front_is; groups_are = refl } in
+        let stood : Stood (words_in front) (groups_of items) opened = record { items = items; within = splits.within; words_are = splits.front_is; groups_are = refl } in
         let no_fit = stopped-fits (words_in front) command.words (groups_of items) opened stood stops in
         ap
         (λ t. cond

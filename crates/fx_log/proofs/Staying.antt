@@ -152,6 +152,7 @@ bad-stays one_row reads goes_on text piece place kind bad = by_rest bad.rest bad
     by_rest (command ∷ rest) splits at =
         let more = whole-more one_row reads goes_on text piece bad.commands bad.whole in
         let splits_more : Splits (bad.commands ++ more.0) bad.front (command ∷ (rest ++ more.0)) bad.items bad.opened = record {
+          within = splits.within;
           commands_are = ap (λ cs. cs ++ more.0) splits.commands_are ∙ append_assoc bad.front (command ∷ rest) more.0;
           front_is = splits.front_is;
           stops = splits.stops;

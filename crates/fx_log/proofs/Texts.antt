@@ -1,7 +1,7 @@
 -- A text has one list of groups, and one bad place or none.
 use Rattle.std.proofs.Common.{◌≡◌, ℕ, true, false, is_some, Option, None, List, [], ◌∷◌, ◌++◌, refl, sym, ap, subst, ◌∙◌, append_assoc, append-nil}
 use Rattle.std.proofs.lemmas.List.{map-append}
-use Rattle.ks_space.specs.declared.record.Record.{Record}
+use Rattle.fx_record.specs.declared.record.Record.{Record}
 use Rattle.resp_read.specs.declared.command.Command.{Command}
 use Rattle.resp_read.specs.declared.stops.BadFrame.{BadFrame}
 use Rattle.resp_read.specs.Frames.{Form, within_u64, commands_from, Begins, LongestRow, IsBadPlace, IsBad, IsWhole}
@@ -72,7 +72,7 @@ one-bad one_row one_frame text place at kind what x y =
         )
 
 log-stood : (text : List ℕ) (items : List Item) (opened : Option (List Record)) (log : IsLog text items opened) → Stood (words_in log.commands) (groups_of items) opened
-log-stood text items opened log = record { items = items; words_are = log.words_are; groups_are = refl }
+log-stood text items opened log = record { items = items; within = log.within; words_are = log.words_are; groups_are = refl }
 
 pub log-groups : (text : List ℕ) (items : List Item) (opened : Option (List Record)) → IsLog text items opened → IsGroups text (groups_of items)
 log-groups text items opened log = record {
@@ -82,7 +82,7 @@ log-groups text items opened log = record {
   items = items;
   opened = opened;
   whole = log.whole;
-  splits = record { commands_are = sym (append-nil log.commands); front_is = log.words_are; stops = tt };
+  splits = record { within = log.within; commands_are = sym (append-nil log.commands); front_is = log.words_are; stops = tt };
   groups_are = refl;
 }
 
@@ -127,6 +127,7 @@ log-broke text piece items opened log commands given place kind whole e =
     let front = log.commands ++ broke.front in
     let stood = subst (λ (ws : List (List (List ℕ))). Stood ws (groups_of items ++ given) broke.left) (sym (words-append log.commands broke.front)) broke.stood in
     let splits : Splits (log.commands ++ commands) front (broke.bad ∷ broke.rest) stood.items broke.left = record {
+      within = stood.within;
       commands_are = ap (λ cs. log.commands ++ cs) broke.commands_are ∙ sym (append_assoc log.commands broke.front (broke.bad ∷ broke.rest));
       front_is = stood.words_are;
       stops = stood-bad (words_in front) broke.bad.words (groups_of items ++ given) broke.left stood broke.no_fit;
@@ -164,7 +165,7 @@ pub log-framed : (text piece : List ℕ) (items : List Item) (opened : Option (L
 log-framed text piece items opened log commands given left place at bad whole e is_bad place_is =
     let stood = log-more text piece items opened log commands given left e in
     let all = log.commands ++ commands in
-    let splits : Splits all all [] stood.items left = record { commands_are = sym (append-nil all); front_is = stood.words_are; stops = tt } in (
+    let splits : Splits all all [] stood.items left = record { within = stood.within; commands_are = sym (append-nil all); front_is = stood.words_are; stops = tt } in (
       record { commands = all; front = all; rest = []; items = stood.items; opened = left; whole = whole; splits = splits; bad = (refl, (at, bad, is_bad, place_is)) },
       record { commands = all; front = all; rest = []; items = stood.items; opened = left; whole = whole; splits = splits; groups_are = stood.groups_are },
     )

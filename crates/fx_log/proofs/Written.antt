@@ -2,14 +2,16 @@
 use Rattle.std.proofs.Common.{◌≡◌, ℕ, Bool, true, false, None, List, [], ◌∷◌, ◌++◌, map, refl, sym, ap, ◌∙◌, arith, append_assoc, append-nil}
 use Rattle.std.specs.List.{AllByRecursion, flat_map}
 use Rattle.std.proofs.lemmas.Grind.{flat_map-append}
-use Rattle.ks_space.specs.declared.record.Record.{Record}
-use Rattle.ks_space.specs.RecordWords.{words_of}
+use Rattle.fx_record.specs.declared.record.Record.{Record}
+use Rattle.fx_record.specs.RecordWords.{words_of, IsRecord}
 use Rattle.resp_read.specs.declared.command.Command.{Command}
 use Rattle.resp_read.specs.Frames.{Form, Given, IsForm, IsCommand, row_text, frame, Begins, LongestRow, IsRow, commands_in, commands_from}
 use Rattle.fx_log.specs.declared.group.Group.{Group}
-use Rattle.fx_log.specs.Groups.{record_text, records_text, wrapped_text, group_text, log_text, IsWritable, IsGroup}
-use Rattle.fx_log.specs.Items.{multi, exec, Item, Bare, Wrapped, item_words, row_words, item_groups, groups_of}
+use Rattle.fx_log.specs.Groups.{record_text, records_text, wrapped_text, group_text, log_text, IsGroup}
+use Rattle.fx_log.specs.Items.{multi, exec, Item, Bare, Wrapped, IsItem, AreItems, item_words, row_words, item_groups, groups_of}
 use Rattle.fx_log.specs.Logs.{IsLog}
+use Rattle.fx_log.proofs.EntryLaws.{IsCommand-words}
+use Rattle.fx_log.proofs.Runs.{each-append}
 
 abbrev pub WordsGiven : Type 0
 WordsGiven = (at : ℕ) (forms : List Form) → map (λ (command : Command). command.words) (commands_from at forms) ≡ commands_in forms
@@ -32,7 +34,7 @@ frames-records (effect ∷ records) rest =
     ap (λ t. record_text effect ++ t) (frames-records records rest) ∙ sym (append_assoc (record_text effect) (records_text records) (flat_map frame rest))
 
 abbrev pub IsWrittenAs : Group → Item → Type 0
-IsWrittenAs group item = (item_groups item ≡ group ∷ []) × (group_text group ≡ flat_map frame (item_words item)) × AllByRecursion IsCommand (item_words item)
+IsWrittenAs group item = (item_groups item ≡ group ∷ []) × (group_text group ≡ flat_map frame (item_words item)) × AllByRecursion IsCommand (item_words item) × IsItem item
 
 abbrev pub multi-fits : IsCommand multi
 multi-fits = record { some = omega arith; few = omega arith; each = (omega arith, tt); all = omega arith }
@@ -40,9 +42,9 @@ multi-fits = record { some = omega arith; few = omega arith; each = (omega arith
 abbrev pub exec-fits : IsCommand exec
 exec-fits = record { some = omega arith; few = omega arith; each = (omega arith, tt); all = omega arith }
 
-each-command : (records : List Record) → AllByRecursion IsWritable records → AllByRecursion IsCommand (map words_of records ++ exec ∷ [])
+each-command : (records : List Record) → AllByRecursion IsRecord records → AllByRecursion IsCommand (map words_of records ++ exec ∷ [])
 each-command [] each = (exec-fits, tt)
-each-command (effect ∷ records) each = (each.0, each-command records each.1)
+each-command (effect ∷ records) each = (IsCommand-words effect each.0, each-command records each.1)
 
 wrapped-text : (records : List Record) → wrapped_text records ≡ flat_map frame (multi ∷ map words_of records ++ exec ∷ [])
 wrapped-text records =
@@ -51,28 +53,25 @@ wrapped-text records =
 
 written-at : (wrapped : Bool) (records : List Record) → IsGroup (record { records = records; wrapped = wrapped }) → IsWrittenAs (record { records = records; wrapped = wrapped }) (item_at wrapped records)
 written-at true [] is = let some = is.some in absurd (omega arith)
-written-at true (effect ∷ []) is = (refl, wrapped-text (effect ∷ []), (multi-fits, each-command (effect ∷ []) is.each))
+written-at true (effect ∷ []) is = (refl, wrapped-text (effect ∷ []), (multi-fits, each-command (effect ∷ []) is.each), is.each)
 written-at true (effect ∷ second ∷ records) is =
-    (refl, wrapped-text (effect ∷ second ∷ records), (multi-fits, each-command (effect ∷ second ∷ records) is.each))
+    (refl, wrapped-text (effect ∷ second ∷ records), (multi-fits, each-command (effect ∷ second ∷ records) is.each), is.each)
 written-at false [] is = let some = is.some in absurd (omega arith)
-written-at false (effect ∷ []) is = (refl, refl, (is.each.0, tt))
+written-at false (effect ∷ []) is = (refl, refl, (IsCommand-words effect is.each.0, tt), is.each.0)
 written-at false (effect ∷ second ∷ records) is = let one = is.one refl in absurd (omega arith)
 
 pub group-written : (group : Group) → IsGroup group → IsWrittenAs group (item_of group)
 group-written group is = written-at group.wrapped group.records is
-
-each-append : {X : Type 0} (P : X → Type 0) (xs ys : List X) → AllByRecursion P xs → AllByRecursion P ys → AllByRecursion P (xs ++ ys)
-each-append P [] ys front back = back
-each-append P (x ∷ xs) ys front back = (front.0, each-append P xs ys front.1 back)
 
 -- groups, their text and the commands of it
 pub record Written (groups : List Group) : Type 0 where
   pub groups_are : groups_of (items_of groups) ≡ groups
   pub text_is : log_text groups ≡ flat_map frame (row_words (items_of groups))
   pub each : AllByRecursion IsCommand (row_words (items_of groups))
+  pub within : AreItems (items_of groups)
 
 pub written : (groups : List Group) → AllByRecursion IsGroup groups → Written groups
-written [] each = record { groups_are = refl; text_is = refl; each = tt }
+written [] each = record { groups_are = refl; text_is = refl; each = tt; within = tt }
 written (group ∷ groups) each =
     let first = group-written group each.0 in
     let later = written groups each.1 in
@@ -81,6 +80,7 @@ written (group ∷ groups) each =
       text_is = ap (λ t. t ++ log_text groups) first.1 ∙ ap (λ t. flat_map frame (item_words (item_of group)) ++ t) later.text_is
           ∙ sym (flat_map-append frame (item_words (item_of group)) (row_words (items_of groups)));
       each = each-append IsCommand (item_words (item_of group)) (row_words (items_of groups)) first.2 later.each;
+      within = (first.3, later.within);
     }
 
 -- the forms of these commands
@@ -117,5 +117,6 @@ written-log words_given groups each =
       commands = commands_from 0 forms;
       whole = record { forms = forms; rest = []; row = row-longest (log_text groups) forms row; commands_are = refl };
       begins = row-begins (log_text groups) forms row;
+      within = (is.within, tt);
       words_are = words_given 0 forms ∙ given-commands (row_words (items_of groups)) ∙ sym (append-nil (row_words (items_of groups)));
     }

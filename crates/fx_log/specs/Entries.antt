@@ -1,8 +1,8 @@
 -- Logs read command by command. What these steps amount to is stated over items, in `log_reading_is_the_grammar`.
 use Rattle.std.specs.Prelude.{ℕ, Bool, true, false, not, if◌then◌else◌, Option, Some, None, List, [], ◌∷◌, ◌++◌, codes}
 use Rattle.std.specs.Str.{bytes_eq}
-use Rattle.ks_space.specs.declared.record.Record.{Record}
-use Rattle.ks_space.specs.RecordWords.{record_of}
+use Rattle.fx_record.specs.declared.record.Record.{Record}
+use Rattle.fx_record.specs.RecordWords.{record_of}
 use Rattle.fx_log.specs.declared.entry.Entry.{Entry}
 use Rattle.fx_log.specs.declared.entry.Entry.TheVariants.{Begin, End, Effect, Other}
 use Rattle.fx_log.specs.declared.group.Group.{Group}

@@ -1,9 +1,9 @@
 -- The effect log as text: groups of records, each record the frame of its words.
 use Rattle.std.specs.Prelude.{◌≡◌, ℕ, ◌<◌, Bool, true, false, List, [], ◌∷◌, ◌++◌, length, codes}
-use Rattle.std.specs.List.{AllByRecursion, flat_map}
-use Rattle.ks_space.specs.declared.record.Record.{Record}
-use Rattle.ks_space.specs.RecordWords.{words_of}
-use Rattle.resp_read.specs.Frames.{frame, IsCommand}
+use Rattle.std.specs.List.{All, AllByRecursion, flat_map}
+use Rattle.fx_record.specs.declared.record.Record.{Record}
+use Rattle.fx_record.specs.RecordWords.{words_of, IsRecord}
+use Rattle.resp_read.specs.Frames.{frame}
 use Rattle.fx_log.specs.declared.group.Group.{Group}
 
 abbrev pub record_text : Record → List ℕ
@@ -30,12 +30,12 @@ group_text group = text_at group.wrapped group.records
 abbrev pub log_text : List Group → List ℕ
 log_text groups = flat_map group_text groups
 
--- a record whose frame can be read back: its words are within the limits of a command
-abbrev pub IsWritable : Record → Type 0
-IsWritable entry = IsCommand (words_of entry)
+-- each record of a group is within the limits
+abbrev pub IsWithin : Group → Type 0
+IsWithin group = All IsRecord group.records
 
--- a group as commands make it: one record or more, and exactly one where it is not wrapped
+-- a group as commands make it: one record or more, and exactly one where it is not wrapped, each within the limits
 pub record IsGroup (group : Group) : Type 0 where
   pub some : 0 < length group.records
   pub one : group.wrapped ≡ false → length group.records ≡ 1
-  pub each : AllByRecursion IsWritable group.records
+  pub each : AllByRecursion IsRecord group.records

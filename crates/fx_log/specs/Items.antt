@@ -1,8 +1,8 @@
 -- What a log is made of, as commands: records that stand alone, and records between `MULTI` and `EXEC`.
 use Rattle.std.specs.Prelude.{◌≡◌, ℕ, true, false, Option, Some, None, List, [], ◌∷◌, ◌++◌, map, codes}
-use Rattle.std.specs.List.{flat_map}
-use Rattle.ks_space.specs.declared.record.Record.{Record}
-use Rattle.ks_space.specs.RecordWords.{words_of}
+use Rattle.std.specs.List.{AllByRecursion, flat_map}
+use Rattle.fx_record.specs.declared.record.Record.{Record}
+use Rattle.fx_record.specs.RecordWords.{words_of, IsRecord}
 use Rattle.fx_log.specs.declared.group.Group.{Group}
 
 abbrev pub multi : List (List ℕ)
@@ -28,9 +28,22 @@ abbrev pub open_words : Option (List Record) → List (List (List ℕ))
 open_words None = []
 open_words (Some records) = multi ∷ map words_of records
 
+-- each record of an item is within the limits
+abbrev pub IsItem : Item → Type 0
+IsItem (Bare entry) = IsRecord entry
+IsItem (Wrapped records) = AllByRecursion IsRecord records
+
+abbrev pub AreItems : List Item → Type 0
+AreItems items = AllByRecursion IsItem items
+
+-- each record of an item that is not at its end
+abbrev pub IsOpen : Option (List Record) → Type 0
+IsOpen None = Unit {0}
+IsOpen (Some records) = AllByRecursion IsRecord records
+
 -- the commands can go on to a row of items
 abbrev pub BeginsItems : List (List (List ℕ)) → Type 0
-BeginsItems words = (more : List (List (List ℕ))) × (items : List Item) × (words ++ more ≡ row_words items)
+BeginsItems words = (more : List (List (List ℕ))) × (items : List Item) × AreItems items × (words ++ more ≡ row_words items)
 
 -- the group of records between `MULTI` and `EXEC`: none where there is no record
 abbrev pub wrapped_groups : List Record → List Group

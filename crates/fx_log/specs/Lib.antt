@@ -1,10 +1,12 @@
 pub use Rattle.resp_read.specs.Frames
-pub use Rattle.ks_space.specs.RecordWords
+pub use Rattle.fx_record.specs.RecordWords
 pub use Rattle.ks_space.specs.Store
+pub use Rattle.fx_record.specs.Records
 pub mod Dump
 pub mod Entries
 pub mod Groups
 pub mod Items
+pub mod Kept
 pub mod Logs
 pub mod Reading
 pub mod Standing

@@ -1,7 +1,7 @@
 -- What a text is as an effect log: its groups, and the first place at which it is no log.
 use Rattle.std.specs.Prelude.{◌≡◌, ℕ, ◌<◌, ◌⊎◌, Option, List, [], ◌∷◌, ◌++◌, length, map}
-use Rattle.ks_space.specs.declared.record.Record.{Record}
-use Rattle.ks_space.specs.RecordWords.{words_of}
+use Rattle.fx_record.specs.declared.record.Record.{Record}
+use Rattle.fx_record.specs.RecordWords.{words_of, IsRecord}
 use Rattle.resp_read.specs.declared.command.Command.{Command}
 use Rattle.resp_read.specs.declared.stops.BadFrame.{BadFrame}
 use Rattle.resp_read.specs.Frames.{within_u64, Begins, IsBad, IsWhole}
@@ -9,7 +9,7 @@ use Rattle.fx_log.specs.declared.group.Group.{Group}
 use Rattle.fx_log.specs.declared.stops.LogKind.{LogKind}
 use Rattle.fx_log.specs.declared.stops.LogKind.TheVariants.{Frame, Row, Nest}
 use Rattle.fx_log.specs.Groups.{group_text, log_text}
-use Rattle.fx_log.specs.Items.{multi, exec, Item, row_words, open_words, BeginsItems, groups_of}
+use Rattle.fx_log.specs.Items.{multi, exec, Item, AreItems, IsOpen, row_words, open_words, BeginsItems, groups_of}
 
 abbrev pub words_in : List Command → List (List (List ℕ))
 words_in commands = map (λ (command : Command). command.words) commands
@@ -22,6 +22,7 @@ StopsItems words (command ∷ rest) = BeginsItems (words ++ command.words ∷ []
 -- commands are a row of items, then the part of one, then the command that may not stand there with those behind it, if
 -- there is one
 pub record Splits (commands front rest : List Command) (items : List Item) (opened : Option (List Record)) : Type 0 where
+  pub within : AreItems items × IsOpen opened
   pub commands_are : commands ≡ front ++ rest
   pub front_is : words_in front ≡ row_words items ++ open_words opened
   pub stops : StopsItems (words_in front) rest
@@ -31,6 +32,7 @@ pub record IsLog (text : List ℕ) (items : List Item) (opened : Option (List Re
   pub commands : List Command
   pub whole : IsWhole text commands
   pub begins : Begins text
+  pub within : AreItems items × IsOpen opened
   pub words_are : words_in commands ≡ row_words items ++ open_words opened
 
 -- the groups of a text: those of the whole items before the first command that may not stand where it stands
@@ -48,7 +50,7 @@ pub record IsGroups (text : List ℕ) (groups : List Group) : Type 0 where
 pub record IsNoRow (words : List (List ℕ)) : Type 0 where
   pub no_multi : words ≡ multi → ⊥
   pub no_exec : words ≡ exec → ⊥
-  pub no_record : (entry : Record) → words ≡ words_of entry → ⊥
+  pub no_record : (entry : Record) → IsRecord entry → words ≡ words_of entry → ⊥
 
 -- the kind of a command that may not stand where it stands
 abbrev pub IsKind : LogKind → List (List ℕ) → Type 0

@@ -1,6 +1,6 @@
 -- What a text reads as, as an effect log.
 use Rattle.std.specs.Prelude.{◌≡◌, ℕ, if◌then◌else◌, is_some, Option, None, List, [], ◌∷◌, ◌++◌}
-use Rattle.ks_space.specs.declared.record.Record.{Record}
+use Rattle.fx_record.specs.declared.record.Record.{Record}
 use Rattle.resp_read.specs.declared.command.Command.{Command}
 use Rattle.resp_read.specs.Frames.{within_u64, commands_from}
 use Rattle.resp_read.specs.Reading.{Reading, Unfinished, Broken, reading}

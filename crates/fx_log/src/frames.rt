@@ -1,35 +1,60 @@
-ghost use Rattle.std.specs.Prelude.{◌≡◌, [], ◌∷◌, ◌++◌, codes, OnOk};
+ghost use Rattle.std.specs.Prelude.{◌≡◌, ◌++◌, map, OnOk};
 ghost use Rattle.resp_read.specs.Frames.{count_line, bulk, frame};
 ghost use Rattle.fx_log.specs.Groups.{record_text};
 
-use ks_space::Record;
+use fx_record::Record;
+use itoa::Buffer;
 use rs_base::{Bytes, NoMemory, write_decimal};
 
-/// Adds a record as the frame of its words (RESP2, an array of bulk strings).
+/// Adds a record as the frame of its words.
 pub fn write_record(record: &Record, out: &mut Bytes) -> Result<(), NoMemory>
     ensures { OnOk result (out.new ≡ out.old ++ record_text «record».now) }
 {
     match record {
-        Record::Set { key, value } => {
-            write_count(b"*", 3, out)?;
-            write_bulk(b"SET", out)?;
-            write_bulk(key.as_slice(), out)?;
-            write_bulk(value.as_slice(), out)
+        Record::Set { key, value } => write_frame(&[b"SET", key.as_slice(), value.as_slice()], out),
+        Record::SetUntil {
+            key,
+            value,
+            deadline,
+        } => {
+            let mut buffer = Buffer::new();
+            let number = buffer.format(*deadline).as_bytes();
+            let words = [
+                b"SET".as_slice(),
+                key.as_slice(),
+                value.as_slice(),
+                b"PXAT",
+                number,
+            ];
+            write_frame(&words, out)
         }
-        Record::Del { key } => {
-            write_count(b"*", 2, out)?;
-            write_bulk(b"DEL", out)?;
-            write_bulk(key.as_slice(), out)
+        Record::SetKeeping { key, value } => write_frame(
+            &[b"SET", key.as_slice(), value.as_slice(), b"KEEPTTL"],
+            out,
+        ),
+        Record::Del { key } => write_frame(&[b"DEL", key.as_slice()], out),
+        Record::ExpireAt { key, deadline } => {
+            let mut buffer = Buffer::new();
+            let number = buffer.format(*deadline).as_bytes();
+            write_frame(&[b"PEXPIREAT", key.as_slice(), number], out)
         }
+        Record::Persist { key } => write_frame(&[b"PERSIST", key.as_slice()], out),
+        Record::Rename { from, to } => write_frame(
+            &[b"RENAME", from.as_slice(), to.as_slice()],
+            out,
+        ),
+        Record::FlushAll => write_frame(&[b"FLUSHALL"], out),
     }
 }
 
-/// Adds the frame of a command that is one word.
-pub fn write_single(word: &[u8], out: &mut Bytes) -> Result<(), NoMemory>
-    ensures { OnOk result (out.new ≡ out.old ++ frame (word.now ∷ [])) }
+/// Adds the frame of a command (RESP2, an array of bulk strings).
+pub fn write_frame(words: &[&[u8]], out: &mut Bytes) -> Result<(), NoMemory>
+    ensures { OnOk result (out.new ≡ out.old ++ frame (map (λ word. word.now) words.now)) }
 {
-    write_count(b"*", 1, out)?;
-    write_bulk(word, out)?;
+    write_count(b"*", words.len(), out)?;
+    for word in words {
+        write_bulk(word, out)?;
+    }
     Ok(())
 }
 

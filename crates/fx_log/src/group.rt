@@ -1,8 +1,8 @@
 ghost use Rattle.std.specs.Prelude.{◌≡◌, ◌++◌, OnOk};
 ghost use Rattle.fx_log.specs.Groups.{group_text, records_text, wrapped_text};
 
-use crate::frames::{write_record, write_single};
-use ks_space::Effects;
+use crate::frames::{write_frame, write_record};
+use fx_record::Effects;
 use rs_base::{Bytes, NoMemory, Seq};
 
 /// What one command did: its records in order, and whether they stand between MULTI and EXEC in the log.
@@ -31,9 +31,9 @@ pub fn write_group(group: &Group, out: &mut Bytes) -> Result<(), NoMemory>
 fn write_wrapped(records: &Effects, out: &mut Bytes) -> Result<(), NoMemory>
     ensures { OnOk result (out.new ≡ out.old ++ wrapped_text records.now) }
 {
-    write_single(b"MULTI", out)?;
+    write_frame(&[b"MULTI"], out)?;
     write_records(records, out)?;
-    write_single(b"EXEC", out)
+    write_frame(&[b"EXEC"], out)
 }
 
 // Adds the frames of records, in order.

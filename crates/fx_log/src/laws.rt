@@ -1,6 +1,6 @@
 ghost use Rattle.std.specs.Prelude.{◌≡◌, ℕ, Option, List, ◌++◌};
 ghost use Rattle.std.specs.List.{AllByRecursion};
-ghost use Rattle.ks_space.specs.declared.record.Record.{Record};
+ghost use Rattle.fx_record.specs.declared.record.Record.{Record};
 ghost use Rattle.fx_log.specs.declared.group.Group.{Group};
 ghost use Rattle.fx_log.specs.declared.stops.LogKind.{LogKind};
 ghost use Rattle.fx_log.specs.Groups.{log_text, IsGroup};

@@ -2,6 +2,7 @@
 //! back.
 #![tactic(auto)]
 
+mod dumping;
 mod entry;
 mod frames;
 mod group;
@@ -13,9 +14,10 @@ mod stops;
 #[cfg(test)]
 mod tests;
 
+pub use dumping::dump;
+pub use fx_record::{Effects, Record};
 pub use group::{Group, Groups, write_group};
-pub use ks_space::{Effects, Record};
 pub use laws::{groups_are_read_back, log_reading_is_the_grammar};
 pub use reader::LogReader;
-pub use replay::{dump, replay_into};
+pub use replay::replay_into;
 pub use stops::{LogKind, LogStop};

@@ -1,7 +1,9 @@
-ghost use Rattle.std.specs.Prelude.{◌≡◌, ℕ, List, [], ◌++◌, Option, IfOk, IfErr, IsErrAnd, Err, None};
+ghost use Rattle.std.specs.Prelude.{◌≡◌, ℕ, List, [], ◌++◌, Option, All, IfOk, IfErr, IsErrAnd, Err, None};
 ghost use Rattle.resp_read.specs.Reading.{Waiting};
-ghost use Rattle.ks_space.specs.declared.record.Record.{Record};
+ghost use Rattle.fx_record.specs.declared.record.Record.{Record};
 ghost use Rattle.fx_log.specs.declared.stops.LogStop.{LogStop};
+ghost use Rattle.fx_log.specs.Groups.{IsWithin};
+ghost use Rattle.fx_log.specs.Items.{IsOpen};
 ghost use Rattle.fx_log.specs.declared.reader.State.{State};
 ghost use Rattle.fx_log.specs.Reading.{Reads, read_from, before_frame};
 ghost use Rattle.fx_log.specs.Standing.{StandsForLog, GoesOn, StopsLog, IsStopOf};
@@ -37,7 +39,11 @@ impl Model for LogReader {
 
     ghost Value = { State };
 
+    ghost use Rattle.fx_log.specs.Kept.{IsKept};
+
     ghost view = { λ r. r.state };
+
+    ghost invariant = { λ r. IsKept r.state };
 }
 
 impl LogReader {
@@ -61,6 +67,7 @@ impl LogReader {
     /// `Bad` where the bytes so far are no log any longer, and `Failed` in each call after that. `NoMemory` in each
     /// call from the first one in which memory ran out.
     pub fn feed(&mut self, piece: &[u8]) -> Result<Groups, LogStop>
+        ensures within { IfOk result (All IsWithin) }
         ensures failed { self.old ≡ State.Failed → (result ≡ Err LogStop.Failed) × (self.new ≡ State.Failed) }
         ensures spent { self.old ≡ State.OutOfMemory → (result ≡ Err LogStop.NoMemory) × (self.new ≡ State.OutOfMemory) }
         ensures goes { (text : List ℕ) → StandsForLog self.old text → IfOk result (λ groups. GoesOn text piece.now groups self.new) }
@@ -87,7 +94,9 @@ impl LogReader {
         opened: Option<Effects>,
         piece: &[u8],
     ) -> Result<Groups, LogStop>
-        requires { self.old ≡ State.OutOfMemory }
+        requires state { self.old ≡ State.OutOfMemory }
+        requires opened { IsOpen opened }
+        ensures within { IfOk result (All IsWithin) }
         ensures goes { (text : List ℕ) → StandsForLog (State.Reading reader opened) text → IfOk result (λ groups. GoesOn text piece.now groups self.new) }
         ensures stops { (text : List ℕ) → StandsForLog (State.Reading reader opened) text → IfErr result (λ stop. StopsLog text piece.now stop (State.Reading reader opened) self.new) }
     {
@@ -118,7 +127,9 @@ impl LogReader {
         opened: Option<Effects>,
         commands: Commands,
     ) -> Result<Groups, LogStop>
-        requires { self.old ≡ State.OutOfMemory }
+        requires state { self.old ≡ State.OutOfMemory }
+        requires opened { IsOpen opened }
+        ensures within { IfOk result (All IsWithin) }
         ensures ok { IfOk result (λ groups. (opened_then : Option (List Record)) × (read_from [] opened commands ≡ Reads groups opened_then) × (self.new ≡ State.Reading reader opened_then)) }
         ensures err { IfErr result (λ stop. IsStopOf (read_from [] opened commands) stop self.new) }
     {

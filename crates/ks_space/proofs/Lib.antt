@@ -1,3 +1,6 @@
-pub mod KeyOrder
-pub mod MapLaws
-pub mod RecordLaws
+pub mod Always
+pub mod EntriesSeen
+pub mod Dues
+pub mod Gone
+pub mod Stores
+pub mod Purged

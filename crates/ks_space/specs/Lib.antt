@@ -1,3 +1,4 @@
 pub use Rattle.rs_base.specs.Bytes
 pub mod Store
-pub mod RecordWords
+pub mod Purge
+pub mod Index

@@ -14,10 +14,14 @@ pub struct Iter<'a> {
 
 impl<'a> Model for Iter<'a> {
     ghost use Rattle.std.specs.Prelude.{List, ℕ};
+    ghost use Rattle.std.specs.Coded.{coded_list, coded_ℕ, coded×};
     ghost use Rattle.std.proofs.lemmas.Map.Lookups.{map_keys};
     ghost use Rattle.ks_space.specs.declared.entry.Entry.{Entry};
+    ghost use Rattle.ks_space.specs.contracts.entry.Entry as entry;
 
     ghost Value = { List (List ℕ × Entry) };
+
+    ghost coded = { coded_list (coded× (coded_list coded_ℕ) entry.the_row.coded) };
 
     ghost view = { λ it. map_keys (λ k. k.items) it.entries };
 }

@@ -1,18 +1,26 @@
-ghost use Rattle.std.specs.Prelude.{◌≡◌, ℕ, List, Some, None};
-ghost use Rattle.ks_space.specs.declared.record.Record.{Record};
-ghost use Rattle.ks_space.specs.Store.{Store, plain_string, apply, ChangesOnly};
-ghost use Rattle.ks_space.specs.RecordWords.{words_of, record_of};
+ghost use Rattle.std.specs.Prelude.{◌≡◌, ◌<◌, ◌≤◌, ◌↔◌, ℕ, List, Some, None, Contains, IfSome, IsSomeAnd};
+ghost use Rattle.std.specs.List.Sorted.{IsStrictlySortedBy};
+ghost use Rattle.std.specs.FinMap as finite;
+ghost use Rattle.ks_space.specs.Store.{Store, deadline_at};
+ghost use Rattle.ks_space.specs.Purge.{gone, purged, by_deadline, IsTimely};
 
-/// The law of `apply` in the words of the Redis manual, SET and DEL: after SET the key holds the value, and any deadline
-/// of it is gone; after DEL the key does not exist; and each other key keeps its entry.
-pub fn records_change_their_key_alone()
-    ensures set { (store : Store) (key value : List ℕ)
-        → ChangesOnly store (apply store (Record.Set key value)) key (Some (plain_string value)) }
-    ensures del { (store : Store) (key : List ℕ) → ChangesOnly store (apply store (Record.Del key)) key None }
+/// The law of the purge (Redis manual, EXPIRE, how keys expire), for every store and time. A key whose deadline is below
+/// the time is absent afterwards; a key without a deadline, or whose deadline is not below the time, has the entry that
+/// it had. So no deadline below the time is left. The keys that are answered are just those that left, each one once,
+/// in the order of their deadlines and, at one deadline, of their bytes.
+pub fn purge_removes_the_keys_past_their_deadline()
+    ensures past { (store : Store) (time : ℕ) (key : List ℕ) (at : ℕ) → deadline_at store key ≡ Some at → at < time
+        → finite.get (purged store time) key ≡ None }
+    ensures others { (store : Store) (time : ℕ) (key : List ℕ) → IfSome (deadline_at store key) (λ at. time ≤ at)
+        → finite.get (purged store time) key ≡ finite.get store key }
+    ensures timely { (store : Store) (time : ℕ) → IsTimely (purged store time) time }
+    ensures listed { (store : Store) (time : ℕ) (key : List ℕ)
+        → Contains (gone store time) key ↔ IsSomeAnd (deadline_at store key) (λ at. at < time) }
+    ensures ordered { (store : Store) (time : ℕ) → IsStrictlySortedBy (by_deadline store) (gone store time) }
 {}
 
-/// The law of words: those of a record are read as that record, and no other words are.
-pub fn each_record_has_its_own_words()
-    ensures back { (effect : Record) → record_of (words_of effect) ≡ Some effect }
-    ensures only { (words : List (List ℕ)) (effect : Record) → record_of words ≡ Some effect → words ≡ words_of effect }
+/// Two stores are equal exactly where each key has the same value, the order in it included, and the same deadline, or is
+/// absent in both.
+pub fn stores_with_equal_entries_are_equal()
+    ensures { (one other : Store) → (one ≡ other) ↔ ((key : List ℕ) → finite.get one key ≡ finite.get other key) }
 {}

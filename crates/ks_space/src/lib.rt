@@ -1,17 +1,16 @@
-//! The store: keys with their values and deadlines, the effect records that change it, and how records are read and
-//! written as words.
+//! The store: keys with their values and deadlines, and the purge of the keys whose deadline has passed.
 #![tactic(auto)]
 
+mod deadlines;
 mod entry;
 mod iter;
 mod laws;
-mod record;
 mod space;
+mod table;
 
 pub use entry::{Entry, Value};
 pub use iter::Iter;
-pub use laws::{each_record_has_its_own_words, records_change_their_key_alone};
-pub use record::{Effects, Record};
+pub use laws::{purge_removes_the_keys_past_their_deadline, stores_with_equal_entries_are_equal};
 pub use space::Space;
 
 #[cfg(test)]

@@ -1,80 +1,189 @@
-ghost use Rattle.std.specs.Prelude.{◌≡◌, ◌↔◌, IsTrue, OnOk, OnErr, IfOk};
-ghost use Rattle.std.specs.Option.{option_copied};
+ghost use Rattle.std.specs.Prelude.{◌≡◌, Some, ◌≢◌, ◌↔◌, IsTrue, OnOk, OnErr, IfOk, IfSome, IfNone, is_some, slice_get, [], ◌∷◌};
+ghost use Rattle.std.specs.Option.{option_copied, option_map};
 ghost use Rattle.std.specs.FinMap as finite;
+ghost use Rattle.ks_space.specs.Store.{IsKey, IsKept, IsStore, IsDeadline, with_deadline};
+ghost use Rattle.ks_space.specs.Purge.{gone, purged};
 
+use crate::Entry;
+use crate::deadlines::{Deadlines, Due};
 use crate::iter::Iter;
-use crate::{Entry, Record, Value};
+use crate::table::Table;
 use rs_base::{Bytes, NoMemory, Words};
 use std::alloc::Global;
-use std::collections::BTreeMap;
 use std::marker::Model;
 
 /// Keys with their entries. Contracts see it as a finite map in the order of the keys' bytes.
 #[derive(Drop)]
 pub struct Space {
     alloc: Global,
-    entries: BTreeMap<Vec<u8>, Entry>,
+    table: Table,
+    // What the purge reads: the deadlines of the table, the soonest first.
+    deadlines: Deadlines,
 }
 
 impl Model for Space {
+    ghost use Rattle.std.specs.Prelude.{◌≡◌};
     ghost use Rattle.std.specs.Coded.{coded_list, coded_ℕ};
     ghost use Rattle.std.specs.FinMap as finite;
-    ghost use Rattle.std.proofs.lemmas.Map.Lookups.{map_keys};
-    ghost use Rattle.ks_space.specs.Store.{Store};
+    ghost use Rattle.ks_space.specs.Store.{Store, IsStore};
+    ghost use Rattle.ks_space.specs.Purge.{dues};
     ghost use Rattle.ks_space.specs.contracts.entry.Entry as entry;
 
     ghost Value = { Store };
 
     ghost coded = { finite.code (coded_list coded_ℕ) entry.the_row.coded };
 
-    ghost view = { λ s. finite.from_entries (map_keys (λ k. k.items) s.entries.entries) };
+    ghost view = { λ s. s.table };
+
+    ghost invariant = { λ s. IsStore s.table × (s.deadlines ≡ dues s.table) };
 }
 
 impl Space {
-    ghost use Rattle.ks_space.specs.Store.{apply};
-
     /// No keys.
     pub fn new(alloc: Global) -> Space
         ensures { result ≡ finite.empty }
     {
         Space {
             alloc,
-            entries: BTreeMap::new(alloc),
+            table: Table::new(alloc),
+            deadlines: Deadlines::new(alloc),
         }
     }
 
     /// The entry of a key. `None` exactly where the key is absent.
     pub fn get(&self, key: &[u8]) -> Option<&Entry>
-        ensures { option_copied result ≡ finite.get self.now key.now }
+        ensures entry { option_copied result ≡ finite.get self.now key.now }
+        ensures kept { IfSome result (λ entry. IsKey key.now × IsKept entry.now) }
+        ensures store { IsStore self.now }
     {
-        self.entries.get(key)
+        self.table.get(key)
     }
 
     /// Gives a key an entry in place of any other, and answers that other one. After `NoMemory` the store is as it was.
     pub fn put(&mut self, key: Bytes, entry: Entry) -> Result<Option<Entry>, NoMemory>
+        requires key { IsKey key }
+        requires entry { IsKept entry }
         ensures old { IfOk result (λ old. old ≡ finite.get self.old key) }
+        ensures kept { IfOk result (λ old. IfSome old IsKept) }
         ensures ok { OnOk result (self.new ≡ finite.insert self.old key entry) }
+        // Only a key that is new, or whose deadline changes, can want memory.
+        ensures room { OnErr result (option_map (λ old. old.deadline) (finite.get self.old key) ≢ Some entry.deadline) }
         ensures err { OnErr result (self.new ≡ self.old) }
     {
-        let old = self.entries.insert(key.into_vec(), entry)?;
-        Ok(old)
+        let before = self.table.deadline(key.as_slice());
+        if same(before, entry.deadline) {
+            let old = self.table.put(key, entry)?;
+            return Ok(old);
+        }
+        let leaving = Due::of(key.clone()?, before);
+        let coming = Due::of(key.clone()?, entry.deadline);
+        self.deadlines.enter(&coming)?;
+        match self.table.put(key, entry) {
+            Ok(old) => {
+                self.deadlines.leave(&leaving);
+                Ok(old)
+            }
+            Err(NoMemory) => {
+                self.deadlines.leave(&coming);
+                Err(NoMemory)
+            }
+        }
     }
 
-    /// Removes a key, and answers the entry that left: `None` exactly where the key is absent. After `NoMemory` the
-    /// store is as it was.
-    pub fn take(&mut self, key: &[u8]) -> Result<Option<Entry>, NoMemory>
-        ensures old { IfOk result (λ old. old ≡ finite.get self.old key.now) }
-        ensures ok { OnOk result (self.new ≡ finite.remove self.old key.now) }
+    /// Removes a key, and answers the entry that left: `None` exactly where the key is absent. It takes no memory.
+    pub fn take(&mut self, key: &[u8]) -> Option<Entry>
+        ensures old { result ≡ finite.get self.old key.now }
+        ensures kept { IfSome result (λ old. IsKey key.now × IsKept old) }
+        ensures left { self.new ≡ finite.remove self.old key.now }
+    {
+        let (key, entry) = self.table.cut(key)?;
+        let leaving = Due::of(key, entry.deadline);
+        self.deadlines.leave(&leaving);
+        Some(entry)
+    }
+
+    /// Gives a key this deadline, or none, in place of the one that it had; its value stays. `false` exactly where the key
+    /// is absent, which changes nothing. After `NoMemory` the store is as it was.
+    pub fn set_deadline(&mut self, key: &[u8], deadline: Option<u64>) -> Result<bool, NoMemory>
+        requires { IfSome deadline IsDeadline }
+        ensures found { IfOk result (λ found. found ≡ is_some (finite.get self.old key.now)) }
+        ensures ok { OnOk result (self.new ≡ with_deadline self.old key.now deadline) }
         ensures err { OnErr result (self.new ≡ self.old) }
     {
-        Ok(self.entries.remove(key))
+        let Some(entry) = self.table.get(key) else {
+            return Ok(false);
+        };
+        let before = entry.deadline;
+        if same(before, deadline) {
+            return Ok(true);
+        }
+        let leaving = Due::of(Bytes::from_slice(self.alloc, key)?, before);
+        let coming = Due::of(Bytes::from_slice(self.alloc, key)?, deadline);
+        self.deadlines.enter(&coming)?;
+        self.deadlines.leave(&leaving);
+        self.table.set_deadline(key, deadline);
+        Ok(true)
+    }
+
+    /// Removes the keys whose deadline is below `now`, and answers them in the order of their deadlines and then of
+    /// their bytes. After `NoMemory` some of them may have left, and nothing else has changed.
+    pub fn purge(&mut self, now: u64) -> Result<Words, NoMemory>
+        ensures keys { IfOk result (λ keys. keys ≡ gone self.old now) }
+        ensures ok { OnOk result (self.new ≡ purged self.old now) }
+        ensures err { OnErr result (purged self.new now ≡ purged self.old now) }
+    {
+        let mut keys = Words::new(self.alloc);
+        while let Some(key) = self.pop_gone(now) {
+            keys.push(key)?;
+        }
+        Ok(keys)
+    }
+
+    // Takes off the first key of those whose deadline is below `now`.
+    fn pop_gone(&mut self, now: u64) -> Option<Bytes>
+        ensures none { IfNone result (self.new ≡ self.old) }
+        ensures all { IfNone result (gone self.old now ≡ []) }
+        ensures first { IfSome result (λ key. gone self.old now ≡ key ∷ gone self.new now) }
+        ensures left { IfSome result (λ key. self.new ≡ finite.remove self.old key) }
+    {
+        let due = self.deadlines.pop_before(now)?;
+        self.table.cut(due.key.as_slice());
+        Some(due.key)
+    }
+
+    /// An equal store, which later changes of this one leave as it is.
+    pub fn snapshot(&self) -> Result<Space, NoMemory>
+        ensures { IfOk result (λ copy. copy ≡ self.now) }
+    {
+        let table = self.table.clone()?;
+        let deadlines = self.deadlines.clone()?;
+        Ok(Space {
+            alloc: self.alloc,
+            table,
+            deadlines,
+        })
+    }
+
+    /// Removes every key.
+    pub fn clear(&mut self)
+        ensures { self.new ≡ finite.empty }
+    {
+        self.table.clear();
+        self.deadlines.clear();
+    }
+
+    /// The key at `place` in byte order, counted from 0. `None` exactly where `place` is not below the number of keys.
+    pub fn key_at(&self, place: usize) -> Option<&[u8]>
+        ensures { option_copied result ≡ slice_get (finite.keys self.now) place }
+    {
+        self.table.key_at(place)
     }
 
     /// How many keys there are.
     pub fn len(&self) -> usize
         ensures { result ≡ finite.len self.now }
     {
-        self.entries.len()
+        self.table.len()
     }
 
     pub fn is_empty(&self) -> bool
@@ -87,37 +196,19 @@ impl Space {
     pub fn keys(&self) -> Result<Words, NoMemory>
         ensures { IfOk result (λ keys. keys ≡ finite.keys self.now) }
     {
-        let mut keys = Words::new(self.alloc);
-        for key in self.entries.keys() {
-            keys.push(Bytes::from_slice(self.alloc, key.as_slice())?)?;
-        }
-        Ok(keys)
+        self.table.keys()
     }
 
     /// The keys with their entries, in byte order.
     pub fn iter(&self) -> Iter<'_>
         ensures { result ≡ finite.entries self.now }
     {
-        Iter::new(self.entries.iter())
+        self.table.iter()
     }
+}
 
-    /// Does to the store what an effect record says. After `NoMemory` the store is as it was.
-    pub fn apply(&mut self, effect: &Record) -> Result<(), NoMemory>
-        ensures ok { OnOk result (self.new ≡ apply self.old effect.now) }
-        ensures err { OnErr result (self.new ≡ self.old) }
-    {
-        match effect {
-            Record::Set { key, value } => {
-                let entry = Entry {
-                    value: Value::Str(value.clone()?),
-                    deadline: None,
-                };
-                self.put(key.clone()?, entry)?;
-            }
-            Record::Del { key } => {
-                self.take(key.as_slice())?;
-            }
-        }
-        Ok(())
-    }
+fn same(one: Option<u64>, other: Option<u64>) -> bool
+    ensures { IsTrue result ↔ (one ≡ other) }
+{
+    one == other
 }

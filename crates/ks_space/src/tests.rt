@@ -1,146 +1,253 @@
-use crate::{Entry, Record, Space, Value};
-use rs_base::{Bytes, NoMemory, Words};
+ghost use Rattle.std.specs.Prelude.{IfOk, IfSome};
+ghost use Rattle.ks_space.specs.Store.{IsKey, IsValue, IsDeadline};
+
+use crate::{Entry, Space, Value};
+use ks_value::{HashValue, ListValue, SetValue};
+use ks_zset::Zset;
+use rs_base::{Bytes, NoMemory, write_decimal};
+use rs_whole::Whole;
 use std::alloc::Global;
 use std::test::Fail;
 
-// Text split at spaces, each part a word; none where there is no text.
-fn words(alloc: Global, text: &[u8]) -> Result<Words, NoMemory> {
-    let mut words = Words::new(alloc);
-    for word in text.split(|byte| *byte == b' ') {
-        if !text.is_empty() {
-            words.push(Bytes::from_slice(alloc, word)?)?;
-        }
-    }
-    Ok(words)
-}
+// As many bytes as a key or a text may have.
+const SHORT: usize = 16_777_216;
 
-// Words, and whether they are a record.
-const RECORD_ROWS: [(&[u8], bool); 14] = [
-    (b"SET k v", true),
-    (b"SET k ", true),
-    (b"DEL k", true),
-    (b"DEL ", true),
-    (b"set k v", false),
-    (b"Del k", false),
-    (b"SET k", false),
-    (b"SET k v KEEPTTL", false),
-    (b"DEL k l", false),
-    (b"DEL", false),
-    (b"GET k", false),
-    (b"GET", false),
-    (b" k", false),
-    (b"", false),
-];
-
-#[test]
-fn reads_and_writes_records(rt: HostRuntime) -> Result<(), Fail> {
-    for (text, is_record) in RECORD_ROWS {
-        match Record::from_words(words(rt.alloc(), text)?) {
-            Some(record) => {
-                assert!(rt; is_record, "{text:?}");
-                assert_eq!(rt; record.to_words(rt.alloc())?, words(rt.alloc(), text)?);
-            }
-            None => assert!(rt; !is_record, "{text:?}"),
-        }
-    }
-    Ok(())
-}
-
+// A deadline or a time fits 32 bits here.
 #[derive(Clone, Copy)]
 enum Step<'a> {
-    Put(&'a [u8], &'a [u8]),
+    Put(&'a [u8], &'a [u8], Option<u32>),
     Take(&'a [u8]),
-    Apply(&'a [u8]),
+    Expire(&'a [u8], Option<u32>),
+    Purge(u64),
+    Clear,
+}
+
+fn wide(deadline: Option<u32>) -> Option<u64>
+    ensures { IfSome result IsDeadline }
+{
+    match deadline {
+        Some(at) => Some(u64::from(at)),
+        None => None,
+    }
 }
 
 fn put(
     alloc: Global,
     space: &mut Space,
     key: &[u8],
-    value: &[u8],
+    text: &[u8],
+    deadline: Option<u32>,
 ) -> Result<Option<Entry>, NoMemory> {
+    if key.len() > SHORT || text.len() > SHORT {
+        return Ok(None);
+    }
     let entry = Entry {
-        value: Value::Str(Bytes::from_slice(alloc, value)?),
-        deadline: None,
+        value: Value::Str(Bytes::from_slice(alloc, text)?),
+        deadline: wide(deadline),
     };
     space.put(Bytes::from_slice(alloc, key)?, entry)
 }
 
-fn apply(alloc: Global, space: &mut Space, text: &[u8]) -> Result<Option<Entry>, NoMemory> {
-    if let Some(record) = Record::from_words(words(alloc, text)?) {
-        space.apply(&record)?;
-    }
-    Ok(None)
-}
-
-fn take_step(alloc: Global, space: &mut Space, step: Step<'_>) -> Result<Option<Entry>, NoMemory> {
-    match step {
-        Step::Put(key, value) => put(alloc, space, key, value),
-        Step::Take(key) => space.take(key),
-        Step::Apply(text) => apply(alloc, space, text),
-    }
-}
-
-fn text_of(entry: Option<&Entry>) -> &[u8] {
-    match entry {
-        Some(entry) => {
-            let Value::Str(text) = &entry.value;
-            text.as_slice()
+fn write_value(value: &Value, out: &mut Bytes) -> Result<(), NoMemory> {
+    match value {
+        Value::Str(text) => out.append(text.as_slice())?,
+        Value::List(items) => {
+            for item in items.iter() {
+                out.append(item.as_slice())?;
+            }
         }
-        None => b"none",
+        Value::Hash(pairs) => {
+            for (field, value) in pairs.iter() {
+                out.append(field)?;
+                out.append(value.as_slice())?;
+            }
+        }
+        Value::Set(members) => {
+            for member in members.iter() {
+                out.append(member)?;
+            }
+        }
+        Value::Sorted(scores) => {
+            for (member, _) in scores.ranks(0, scores.len())?.as_slice() {
+                out.append(member.as_slice())?;
+            }
+        }
+    }
+    Ok(())
+}
+
+fn write_entry(entry: &Entry, out: &mut Bytes) -> Result<(), NoMemory> {
+    write_value(&entry.value, out)?;
+    if let Some(at) = entry.deadline {
+        out.push(b'@')?;
+        write_decimal(at, out)?;
+    }
+    Ok(())
+}
+
+fn write_answer(answer: Option<Entry>, out: &mut Bytes) -> Result<(), NoMemory> {
+    match answer {
+        Some(entry) => write_entry(&entry, out),
+        None => out.append(b"none"),
     }
 }
 
-// Takes a step: the old value, and then each key with its value.
-fn told(alloc: Global, space: &mut Space, step: Step<'_>) -> Result<Words, NoMemory> {
-    let old = take_step(alloc, space, step)?;
-    let mut told = Words::new(alloc);
-    told.push(Bytes::from_slice(alloc, text_of(old.as_ref()))?)?;
+fn write_store(space: &Space, out: &mut Bytes) -> Result<(), NoMemory> {
     for (key, entry) in space.iter() {
-        told.push(Bytes::from_slice(alloc, key)?)?;
-        told.push(Bytes::from_slice(alloc, text_of(Some(entry)))?)?;
+        out.push(b' ')?;
+        out.append(key)?;
+        out.push(b'=')?;
+        write_entry(entry, out)?;
     }
-    Ok(told)
+    Ok(())
 }
 
-// Steps one after another, and what is told of each.
-const STEP_ROWS: [(Step<'static>, &[u8]); 10] = [
+// Takes a step, and tells its answer.
+fn take_step(
+    alloc: Global,
+    space: &mut Space,
+    step: Step<'_>,
+    out: &mut Bytes,
+) -> Result<(), NoMemory> {
+    match step {
+        Step::Put(key, text, deadline) => {
+            write_answer(put(alloc, space, key, text, deadline)?, out)?;
+        }
+        Step::Take(key) => write_answer(space.take(key), out)?,
+        Step::Expire(key, deadline) => {
+            let found = space.set_deadline(key, wide(deadline))?;
+            out.append(if found { b"yes" } else { b"no" })?;
+        }
+        Step::Purge(now) => {
+            for key in space.purge(now)?.as_slice() {
+                out.append(key.as_slice())?;
+                out.push(b',')?;
+            }
+        }
+        Step::Clear => space.clear(),
+    }
+    Ok(())
+}
+
+// Steps one after another, with the answer of each and the keys and entries that are then there.
+const STEPS: [(Step<'static>, &[u8]); 23] = [
     (Step::Take(b"b"), b"none"),
-    (Step::Put(b"b", b"1"), b"none b 1"),
-    (Step::Put(b"a", b"2"), b"none a 2 b 1"),
-    (Step::Put(b"b", b"3"), b"1 a 2 b 3"),
-    (Step::Apply(b"SET ab 4"), b"none a 2 ab 4 b 3"),
-    (Step::Apply(b"SET a 5"), b"none a 5 ab 4 b 3"),
-    (Step::Apply(b"DEL b"), b"none a 5 ab 4"),
-    (Step::Apply(b"DEL b"), b"none a 5 ab 4"),
-    (Step::Take(b"ab"), b"4 a 5"),
-    (Step::Put(b"\xff", b"6"), b"none a 5 \xff 6"),
+    (Step::Put(b"b", b"1", None), b"none b=1"),
+    (Step::Put(b"a", b"2", Some(7)), b"none a=2@7 b=1"),
+    (Step::Put(b"b", b"3", Some(5)), b"1 a=2@7 b=3@5"),
+    (Step::Put(b"ab", b"4", Some(5)), b"none a=2@7 ab=4@5 b=3@5"),
+    (Step::Put(b"ab", b"", Some(5)), b"4@5 a=2@7 ab=@5 b=3@5"),
+    (Step::Expire(b"a", None), b"yes a=2 ab=@5 b=3@5"),
+    (Step::Expire(b"c", Some(1)), b"no a=2 ab=@5 b=3@5"),
+    (
+        Step::Put(b"\xff", b"5", Some(9)),
+        b"none a=2 ab=@5 b=3@5 \xff=5@9",
+    ),
+    (
+        Step::Expire(b"\xff", Some(4)),
+        b"yes a=2 ab=@5 b=3@5 \xff=5@4",
+    ),
+    (Step::Purge(4), b" a=2 ab=@5 b=3@5 \xff=5@4"),
+    (Step::Purge(5), b"\xff, a=2 ab=@5 b=3@5"),
+    (Step::Purge(6), b"ab,b, a=2"),
+    (Step::Put(b"z", b"6", Some(0)), b"none a=2 z=6@0"),
+    (Step::Put(b"a", b"7", Some(8)), b"2 a=7@8 z=6@0"),
+    (Step::Put(b"c", b"8", Some(8)), b"none a=7@8 c=8@8 z=6@0"),
+    (Step::Put(b"c", b"9", None), b"8@8 a=7@8 c=9 z=6@0"),
+    (Step::Purge(u64::MAX), b"z,a, c=9"),
+    (Step::Put(b"d", b"", None), b"none c=9 d="),
+    (Step::Take(b"c"), b"9 d="),
+    (Step::Expire(b"d", Some(1)), b"yes d=@1"),
+    (Step::Clear, b""),
+    (Step::Purge(u64::MAX), b""),
 ];
 
-// How many rows from the first on are as told.
+// How many steps from the first on are as told.
 fn agreeing(
     alloc: Global,
     space: &mut Space,
-    rows: &[(Step<'_>, &[u8])],
+    steps: &[(Step<'_>, &[u8])],
 ) -> Result<usize, NoMemory> {
-    for (at, (step, want)) in rows.iter().enumerate() {
-        if told(alloc, space, *step)? != words(alloc, want)? {
+    for (at, (step, want)) in steps.iter().enumerate() {
+        let mut told = Bytes::new(alloc);
+        take_step(alloc, space, *step, &mut told)?;
+        write_store(space, &mut told)?;
+        if told.as_slice() != *want {
             return Ok(at);
         }
     }
-    Ok(rows.len())
+    Ok(steps.len())
+}
+
+// A list, a hash, a set and a sorted set of one item, and a string with a deadline.
+fn each_kind(alloc: Global) -> Result<Space, NoMemory> {
+    let mut space = Space::new(alloc);
+    let mut items = ListValue::new(alloc);
+    items.push_back(Bytes::from_slice(alloc, b"i")?)?;
+    put_value(alloc, &mut space, b"list", Value::List(items))?;
+    let mut pairs = HashValue::new(alloc);
+    pairs.set(
+        Bytes::from_slice(alloc, b"f")?,
+        Bytes::from_slice(alloc, b"v")?,
+    )?;
+    put_value(alloc, &mut space, b"hash", Value::Hash(pairs))?;
+    let mut members = SetValue::new(alloc);
+    members.insert(Bytes::from_slice(alloc, b"m")?)?;
+    put_value(alloc, &mut space, b"set", Value::Set(members))?;
+    if let Some(score) = Whole::new(7) {
+        let scores = one_score(alloc, score)?;
+        put_value(alloc, &mut space, b"sorted", Value::Sorted(scores))?;
+    }
+    put(alloc, &mut space, b"string", b"s", Some(1))?;
+    Ok(space)
+}
+
+fn one_score(alloc: Global, score: Whole) -> Result<Zset, NoMemory>
+    ensures { IfOk result (λ scores. IsValue (Value.Sorted scores)) }
+{
+    let mut scores = Zset::new(alloc);
+    scores.insert(Bytes::from_slice(alloc, b"n")?, score)?;
+    Ok(scores)
+}
+
+fn put_value(alloc: Global, space: &mut Space, key: &[u8], value: Value) -> Result<(), NoMemory>
+    requires key { IsKey key.now }
+    requires value { IsValue value }
+{
+    let entry = Entry {
+        value,
+        deadline: None,
+    };
+    space.put(Bytes::from_slice(alloc, key)?, entry)?;
+    Ok(())
 }
 
 #[test]
-fn keeps_entries(rt: HostRuntime) -> Result<(), Fail> {
-    let mut space = Space::new(rt.alloc());
+fn copies_each_kind(rt: HostRuntime) -> Result<(), Fail> {
+    let mut space = each_kind(rt.alloc())?;
+    let copy = space.snapshot()?;
+    space.clear();
     assert!(rt; space.is_empty());
+    assert_eq!(rt; copy.len(), 5);
+    let mut told = Bytes::new(rt.alloc());
+    write_store(&copy, &mut told)?;
     assert_eq!(rt;
-        agreeing(rt.alloc(), &mut space, &STEP_ROWS)?,
-        STEP_ROWS.len()
+        told.as_slice(),
+        b" hash=fv list=i set=m sorted=n string=s@1".as_slice()
     );
-    assert_eq!(rt; space.len(), 2);
-    assert_eq!(rt; text_of(space.get(b"a")), b"5".as_slice());
-    assert_eq!(rt; space.keys()?, words(rt.alloc(), b"a \xff")?);
+    let keys = copy.keys()?;
+    assert_eq!(rt; keys.len(), 5);
+    for (at, key) in keys.as_slice().iter().enumerate() {
+        assert_eq!(rt; copy.key_at(at), Some(key.as_slice()));
+        assert!(rt; copy.get(key.as_slice()).is_some());
+    }
+    Ok(())
+}
+
+#[test]
+fn takes_steps(rt: HostRuntime) -> Result<(), Fail> {
+    let mut space = Space::new(rt.alloc());
+    let steps = agreeing(rt.alloc(), &mut space, &STEPS)?;
+    assert_eq!(rt; steps, STEPS.len());
     Ok(())
 }

@@ -7,7 +7,7 @@ use Rattle.std.specs.FinMap as finite
 use Rattle.rs_outside.specs.Known.{items_then, known_then, NoneLeft}
 use Rattle.rs_outside.specs.declared.status.Status.{Status}
 use Rattle.rs_outside.specs.declared.status.Status.TheVariants.{Done, Usage, BadInput, BadLog, SourceFault, SinkFault, LogFault, WireFault, TurnsSpent, NoMemory, InputTooLong}
-use Rattle.ks_space.specs.Store.{apply, replay}
+use Rattle.fx_record.specs.Records.{apply, replay}
 use Rattle.fx_log.specs.declared.group.Group.{Group}
 use Rattle.fx_log.specs.declared.stops.LogKind.{LogKind}
 use Rattle.fx_log.specs.Logs.{IsGroups, IsBadLog, HasBadPlace}

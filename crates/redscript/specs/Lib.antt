@@ -7,6 +7,7 @@ pub use Rattle.fx_log.specs.Logs
 pub use Rattle.fx_log.specs.Standing
 pub use Rattle.fx_log.specs.Dump
 pub use Rattle.ks_space.specs.Store
+pub use Rattle.fx_record.specs.Records
 pub use Rattle.rs_outside.specs.Faults
 pub use Rattle.rs_outside.specs.Known
 pub mod Forms

@@ -5,8 +5,9 @@ use Rattle.std.specs.FinMap as finite
 use Rattle.rs_outside.specs.Known.{items_then, known_then, NoneLeft}
 use Rattle.rs_outside.specs.declared.status.Status.{Status}
 use Rattle.rs_outside.specs.declared.status.Status.TheVariants.{Done, BadLog, SourceFault, SinkFault, InputTooLong, NoMemory}
-use Rattle.ks_space.specs.declared.record.Record.{Record}
-use Rattle.ks_space.specs.Store.{Store, replay}
+use Rattle.fx_record.specs.declared.record.Record.{Record}
+use Rattle.ks_space.specs.Store.{Store}
+use Rattle.fx_record.specs.Records.{replay}
 use Rattle.fx_log.specs.declared.group.Group.{Group}
 use Rattle.fx_log.specs.declared.stops.LogKind.{LogKind}
 use Rattle.fx_log.specs.Dump.{dump}

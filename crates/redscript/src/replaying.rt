@@ -1,9 +1,10 @@
-ghost use Rattle.std.specs.Prelude.{◌≡◌, ◌⊎◌, ◌+◌, ◌<◌, ◌≤◌, ◌++◌, ℕ, List, [], Option, Some, length, fold, IfOk, IfErr, OnOk};
+ghost use Rattle.std.specs.Prelude.{◌≡◌, ◌⊎◌, ◌+◌, ◌<◌, ◌≤◌, ◌++◌, ℕ, List, [], Option, Some, All, length, fold, IfOk, IfErr, OnOk};
 ghost use Rattle.rs_outside.specs.Faults.{Rose};
 ghost use Rattle.rs_outside.specs.Known.{known_then};
 ghost use Rattle.rs_outside.specs.declared.status.Status.{Status};
-ghost use Rattle.ks_space.specs.Store.{apply};
+ghost use Rattle.fx_record.specs.Records.{apply};
 ghost use Rattle.fx_log.specs.declared.stops.LogKind.{LogKind};
+ghost use Rattle.fx_log.specs.Groups.{IsWithin};
 ghost use Rattle.fx_log.specs.Logs.{IsBadLog, HasBadPlace};
 ghost use Rattle.srv_loop.specs.Stops.{Stops, Never};
 ghost use Rattle.srv_loop.specs.Taking.{TookPrefix};
@@ -173,6 +174,7 @@ fn put_counts(groups: u64, keys: u64, out: &mut Bytes) -> Result<(), NoMemory>
 
 // Does to a store what the records of groups say, in order.
 fn carry_out(groups: &Groups, space: &mut Space) -> Result<(), NoMemory>
+    requires { All IsWithin groups.now }
     ensures { OnOk result (space.new ≡ fold apply space.old (records_of groups.now)) }
 {
     for group in groups.as_slice() {

@@ -1,318 +1,471 @@
 use crate::{play, put_row, serve, session_line};
 use cl_core::Server;
-use rs_base::{Bytes, Seq};
+use rs_base::{Bytes, NoMemory, Words};
 use rs_outside::{
     Calls, MemLog, MemSink, MemWire, OutRow, Status, SureLog, SureSink, Turn, Turns, What,
 };
 use std::alloc::Global;
 use std::test::Fail;
 
-fn turn(clock: u64, word: u64, client: u32, what: What) -> Turn {
-    Turn {
+// What a turn does, as a table has it.
+#[derive(Clone, Copy)]
+enum Does {
+    Opened,
+    Piece(&'static [u8]),
+    Closed,
+    Idle,
+}
+
+// Lines, and the clock, the word, the client and what is done where it is a session line.
+type LineRow = (&'static [u8], Option<(u64, u64, u32, Does)>);
+
+static LINE_ROWS: [LineRow; 36] = [
+    (b"1000 0 1 opened\n", Some((1000, 0, 1, Does::Opened))),
+    (
+        b"0 18446744073709551615 0 opened\n",
+        Some((0, u64::MAX, 0, Does::Opened)),
+    ),
+    (
+        b"18446744073709551615 10 4294967295 closed\n",
+        Some((u64::MAX, 10, u32::MAX, Does::Closed)),
+    ),
+    (b"7 8 0 closed\n", Some((7, 8, 0, Does::Closed))),
+    (b"1 2 0 idle\n", Some((1, 2, 0, Does::Idle))),
+    (
+        b"1000 7 9 piece \\e\n",
+        Some((1000, 7, 9, Does::Piece(b""))),
+    ),
+    (
+        b"1000 7 9 piece *0\\r\\n*-1\\r\\n\n",
+        Some((1000, 7, 9, Does::Piece(b"*0\r\n*-1\r\n"))),
+    ),
+    (
+        b"1000 7 9 piece half\n",
+        Some((1000, 7, 9, Does::Piece(b"half"))),
+    ),
+    (
+        b"1000 7 9 piece \\s\\\\\\x00\\r\\n\n",
+        Some((1000, 7, 9, Does::Piece(b" \\\x00\r\n"))),
+    ),
+    (
+        b"1000 7 9 piece opened\n",
+        Some((1000, 7, 9, Does::Piece(b"opened"))),
+    ),
+    (b"", None),
+    (b"\n", None),
+    (b"1 0 1 opened", None),
+    (b"1 0 1 opened\r\n", None),
+    (b"1 0 1 opened \n", None),
+    (b" 1 0 1 opened\n", None),
+    (b"1  0 1 opened\n", None),
+    (b"1 0 1  opened\n", None),
+    (b"1 0 1 Opened\n", None),
+    (b"1 0 1 opened\n1 0 1 opened\n", None),
+    (b"01 0 1 opened\n", None),
+    (b"1 00 1 opened\n", None),
+    (b"1 0 01 opened\n", None),
+    (b"-1 0 1 opened\n", None),
+    (b"18446744073709551616 0 1 opened\n", None),
+    (b"1 18446744073709551616 1 opened\n", None),
+    (b"1 0 4294967296 opened\n", None),
+    (b"1 0 1 idle\n", None),
+    (b"1 0 00 idle\n", None),
+    (b"1 0 1 close\n", None),
+    (b"1 0 1 piece\n", None),
+    (b"1 0 1 piece \n", None),
+    (b"1 0 1 piece \\x41\n", None),
+    (b"1 0 1 piece a\\e\n", None),
+    (b"1 0 1 piece a \n", None),
+    (b"1 0 1\n", None),
+];
+
+fn what_of(alloc: Global, does: Does) -> Result<What, NoMemory> {
+    Ok(match does {
+        Does::Opened => What::Opened,
+        Does::Piece(bytes) => What::Piece(Bytes::from_slice(alloc, bytes)?),
+        Does::Closed => What::Closed,
+        Does::Idle => What::Idle,
+    })
+}
+
+fn turn_of(alloc: Global, said: Option<(u64, u64, u32, Does)>) -> Result<Option<Turn>, NoMemory> {
+    let Some((clock, word, client, does)) = said else {
+        return Ok(None);
+    };
+    let what = what_of(alloc, does)?;
+    Ok(Some(Turn {
         clock,
         word,
         client,
         what,
-    }
+    }))
 }
 
-fn line_of(alloc: Global, head: &[u8], text: &[u8]) -> Result<Bytes, Fail> {
-    let mut line = Bytes::from_slice(alloc, head)?;
-    line.append(text)?;
+// How many lines from the first on are read as told.
+fn lines_read(alloc: Global, rows: &[LineRow]) -> Result<usize, NoMemory> {
+    for (at, (line, want)) in rows.iter().enumerate() {
+        if session_line(alloc, line)? != turn_of(alloc, *want)? {
+            return Ok(at);
+        }
+    }
+    Ok(rows.len())
+}
+
+// Whether a piece of so many bytes is read.
+fn reads_piece_of(alloc: Global, length: usize) -> Result<bool, NoMemory> {
+    let mut line = Bytes::from_slice(alloc, b"1 0 1 piece ")?;
+    line.append(vec![in alloc; b'a'; length]?.as_slice())?;
     line.append(b"\n")?;
-    Ok(line)
+    Ok(session_line(alloc, line.as_slice())?.is_some())
 }
 
 #[test]
 fn reads_session_lines(rt: HostRuntime) -> Result<(), Fail> {
     let alloc = rt.alloc();
-    let rows = [
-        (
-            b"1000 0 1 opened\n".as_slice(),
-            turn(1000, 0, 1, What::Opened),
-        ),
-        (
-            b"0 18446744073709551615 0 opened\n",
-            turn(0, u64::MAX, 0, What::Opened),
-        ),
-        (
-            b"18446744073709551615 10 4294967295 closed\n",
-            turn(u64::MAX, 10, u32::MAX, What::Closed),
-        ),
-        (b"7 8 0 closed\n", turn(7, 8, 0, What::Closed)),
-        (b"1 2 0 idle\n", turn(1, 2, 0, What::Idle)),
-    ];
-    for (line, want) in rows {
-        assert_eq!(rt; session_line(alloc, line)?, Some(want));
-    }
-
-    let pieces = [
-        (br"\e".as_slice(), b"".as_slice()),
-        (br"*0\r\n*-1\r\n", b"*0\r\n*-1\r\n"),
-        (br"half", b"half"),
-        (br"\s\\\x00\r\n", b" \\\x00\r\n"),
-        (br"opened", b"opened"),
-    ];
-    for (text, bytes) in pieces {
-        let line = line_of(alloc, b"1000 7 9 piece ", text)?;
-        let want = turn(1000, 7, 9, What::Piece(Bytes::from_slice(alloc, bytes)?));
-        assert_eq!(rt; session_line(alloc, line.as_slice())?, Some(want));
-    }
+    assert_eq!(rt; lines_read(alloc, &LINE_ROWS)?, LINE_ROWS.len());
+    assert!(rt; reads_piece_of(alloc, 1_048_576)?);
+    assert!(rt; !reads_piece_of(alloc, 1_048_577)?);
     Ok(())
 }
 
-#[test]
-fn refuses_other_lines(rt: HostRuntime) -> Result<(), Fail> {
-    let alloc = rt.alloc();
-    let lines = [
-        b"".as_slice(),
-        b"\n",
-        b"1 0 1 opened",
-        b"1 0 1 opened\r\n",
-        b"1 0 1 opened \n",
-        b" 1 0 1 opened\n",
-        b"1  0 1 opened\n",
-        b"1 0 1  opened\n",
-        b"1 0 1 Opened\n",
-        b"1 0 1 opened\n1 0 1 opened\n",
-        b"01 0 1 opened\n",
-        b"1 00 1 opened\n",
-        b"1 0 01 opened\n",
-        b"-1 0 1 opened\n",
-        b"18446744073709551616 0 1 opened\n",
-        b"1 18446744073709551616 1 opened\n",
-        b"1 0 4294967296 opened\n",
-        b"1 0 1 idle\n",
-        b"1 0 00 idle\n",
-        b"1 0 1 close\n",
-        b"1 0 1 piece\n",
-        b"1 0 1 piece \n",
-        b"1 0 1 piece \\x41\n",
-        b"1 0 1 piece a\\e\n",
-        b"1 0 1 piece a \n",
-        b"1 0 1\n",
-    ];
-    for line in lines {
-        assert_eq!(rt; session_line(alloc, line)?, None, "{line:?}");
-    }
-    Ok(())
+// What is written to a client, or none where it is shut, and the row's text.
+static OUT_ROWS: [(u32, Option<&[u8]>, &[u8]); 4] = [
+    (1, Some(b"+OK\r\n"), b"1 send +OK\\r\\n\n"),
+    (
+        u32::MAX,
+        Some(b"$3\r\n\\ \xff\r\n"),
+        b"4294967295 send $3\\r\\n\\\\\\s\\xff\\r\\n\n",
+    ),
+    (0, Some(b""), b"0 send \\e\n"),
+    (7, None, b"7 shut\n"),
+];
+
+fn row_of(alloc: Global, client: u32, sent: Option<&[u8]>) -> Result<OutRow, NoMemory> {
+    Ok(match sent {
+        Some(bytes) => OutRow::Sent(client, Bytes::from_slice(alloc, bytes)?),
+        None => OutRow::Shut(client),
+    })
 }
 
-#[test]
-fn limits_pieces(rt: HostRuntime) -> Result<(), Fail> {
-    let alloc = rt.alloc();
-    let longest = vec![in alloc; b'a'; 1_048_576]?;
-    let line = line_of(alloc, b"1 0 1 piece ", longest.as_slice())?;
-    assert!(rt; session_line(alloc, line.as_slice())?.is_some());
-    let longer = vec![in alloc; b'a'; 1_048_577]?;
-    let line = line_of(alloc, b"1 0 1 piece ", longer.as_slice())?;
-    assert!(rt; session_line(alloc, line.as_slice())?.is_none());
-    Ok(())
+// Writes a row, and then whether this is all that was written.
+fn writes(
+    alloc: Global,
+    row: &(u32, Option<&[u8]>, &[u8]),
+    all: &mut Bytes,
+    want: &mut Bytes,
+) -> Result<bool, NoMemory> {
+    let out = row_of(alloc, row.0, row.1)?;
+    put_row(&out, all)?;
+    want.append(row.2)?;
+    Ok(*all == *want)
 }
 
-#[test]
-fn writes_rows(rt: HostRuntime) -> Result<(), Fail> {
-    let alloc = rt.alloc();
-    let rows = [
-        (
-            OutRow::Sent(1, Bytes::from_slice(alloc, b"+OK\r\n")?),
-            br"1 send +OK\r\n".as_slice(),
-        ),
-        (
-            OutRow::Sent(u32::MAX, Bytes::from_slice(alloc, b"$3\r\n\\ \xff\r\n")?),
-            br"4294967295 send $3\r\n\\\s\xff\r\n",
-        ),
-        (OutRow::Sent(0, Bytes::new(alloc)), br"0 send \e"),
-        (OutRow::Shut(7), b"7 shut"),
-    ];
+// How many rows from the first on are written as told, each behind those before.
+fn rows_written(alloc: Global, rows: &[(u32, Option<&[u8]>, &[u8])]) -> Result<usize, NoMemory> {
     let mut all = Bytes::new(alloc);
     let mut want = Bytes::new(alloc);
-    for (row, text) in rows.iter() {
-        put_row(row, &mut all)?;
-        want.append(*text)?;
-        want.append(b"\n")?;
-        assert_eq!(rt; all, want);
+    for (at, row) in rows.iter().enumerate() {
+        if !writes(alloc, row, &mut all, &mut want)? {
+            return Ok(at);
+        }
     }
-    Ok(())
+    Ok(rows.len())
 }
 
-const LINES: [&[u8]; 5] = [
-    b"1000 0 1 opened\n",
-    b"1000 0 1 piece *3\\r\\n$3\\r\\nSET\\r\\n$1\\r\\nk\\r\\n$1\\r\\nv\\r\\n\n",
-    b"1001 0 2 opened\n",
-    b"1002 0 2 piece *2\\r\\n$3\\r\\nGET\\r\\n$1\\r\\nk\\r\\n\n",
-    b"1003 0 1 closed\n",
-];
+const SESSION: &[u8] =
+    b"1000 0 1 opened\n1000 0 1 piece *3\\r\\n$3\\r\\nSET\\r\\n$1\\r\\nk\\r\\n$1\\r\\nv\\r\\n\n1001 0 2 opened\n1002 0 2 piece *2\\r\\n$3\\r\\nGET\\r\\n$1\\r\\nk\\r\\n\n1003 0 1 closed\n";
 
 const LOGGED: &[u8] = b"*3\r\n$3\r\nSET\r\n$1\r\nk\r\n$1\r\nv\r\n";
 
-fn five_turns(alloc: Global) -> Result<Turns, Fail> {
+const TRANSCRIPT: &[u8] =
+    b"1 send +OK\\r\\n\n2 send $1\\r\\nv\\r\\n\nend turns=5 keys=1 log=27\nk string - v\n";
+
+fn turns_of(alloc: Global, session: &[u8]) -> Result<Turns, NoMemory> {
     let mut turns = Turns::new(alloc);
-    for line in LINES {
-        turns.push(session_line(alloc, line)?.ok_or("no session line")?)?;
+    for line in session.split_inclusive(|byte| *byte == b'\n') {
+        let Some(turn) = session_line(alloc, line)? else {
+            return Ok(turns);
+        };
+        turns.push(turn)?;
     }
     Ok(turns)
 }
 
-fn two_rows(alloc: Global) -> Result<[OutRow; 2], Fail> {
-    Ok([
-        OutRow::Sent(1, Bytes::from_slice(alloc, b"+OK\r\n")?),
-        OutRow::Sent(2, Bytes::from_slice(alloc, b"$1\r\nv\r\n")?),
-    ])
+fn failing_at(alloc: Global, call: Option<u64>) -> Result<Calls, NoMemory> {
+    let mut calls = Calls::new(alloc);
+    if let Some(call) = call {
+        calls.push(call)?;
+    }
+    Ok(calls)
 }
 
-fn failing_at(alloc: Global, call: u64) -> Result<Calls, Fail> {
-    Ok(Seq::from_vec(vec![in alloc; call]?))
+fn rows_told(alloc: Global, rows: &[OutRow]) -> Result<Bytes, NoMemory> {
+    let mut text = Bytes::new(alloc);
+    for row in rows {
+        put_row(row, &mut text)?;
+    }
+    Ok(text)
+}
+
+// The call at which the wire fails, the most turns that are taken, the status, how often a turn was asked for, and then
+// what was sent and what was logged.
+type ServeRow = (
+    Option<u64>,
+    u64,
+    Status,
+    u64,
+    (&'static [u8], &'static [u8]),
+);
+
+const NOTHING: (&[u8], &[u8]) = (b"", b"");
+
+const ONE: (&[u8], &[u8]) = (b"1 send +OK\\r\\n\n", LOGGED);
+
+const BOTH: (&[u8], &[u8]) = (b"1 send +OK\\r\\n\n2 send $1\\r\\nv\\r\\n\n", LOGGED);
+
+// Where the wire fails nothing of the turns before is missing.
+static SERVE_ROWS: [ServeRow; 12] = [
+    (None, 0, Status::TurnsSpent { turns: 0 }, 0, NOTHING),
+    (None, 1, Status::TurnsSpent { turns: 1 }, 1, NOTHING),
+    (None, 3, Status::TurnsSpent { turns: 3 }, 3, ONE),
+    (None, 5, Status::TurnsSpent { turns: 5 }, 5, BOTH),
+    (None, 6, Status::Done, 6, BOTH),
+    (None, u64::MAX, Status::Done, 6, BOTH),
+    (Some(0), 9, Status::WireFault, 1, NOTHING),
+    (Some(1), 9, Status::WireFault, 2, NOTHING),
+    (Some(2), 9, Status::WireFault, 3, ONE),
+    (Some(3), 9, Status::WireFault, 4, ONE),
+    (Some(4), 9, Status::WireFault, 5, BOTH),
+    (Some(5), 9, Status::WireFault, 6, BOTH),
+];
+
+// Whether this is what was served.
+fn is_told(
+    alloc: Global,
+    status: Status,
+    wire: &MemWire,
+    log: &SureLog,
+    row: &ServeRow,
+) -> Result<bool, NoMemory> {
+    let sent = rows_told(alloc, wire.sent().as_slice())?;
+    Ok(
+        status == row.2
+            && wire.calls() == row.3
+            && sent.as_slice() == row.4.0
+            && log.taken().as_slice() == row.4.1
+            && log.begun().is_empty(),
+    )
+}
+
+fn serves(alloc: Global, session: &[u8], row: &ServeRow) -> Result<bool, NoMemory> {
+    let failing = failing_at(alloc, row.0)?;
+    let turns = turns_of(alloc, session)?;
+    let mut wire = MemWire::new(alloc, turns, failing);
+    let mut server = Server::new(alloc);
+    let mut log = SureLog::new(alloc);
+    let status = serve(alloc, &mut server, &mut wire, &mut log, row.1);
+    is_told(alloc, status, &wire, &log, row)
+}
+
+// How many rows from the first on are served as told.
+fn served(alloc: Global, session: &[u8], rows: &[ServeRow]) -> Result<usize, NoMemory> {
+    for (at, row) in rows.iter().enumerate() {
+        if !serves(alloc, session, row)? {
+            return Ok(at);
+        }
+    }
+    Ok(rows.len())
+}
+
+// Whether a turn's reply is not sent where the log fails.
+fn keeps_the_reply(alloc: Global, session: &[u8]) -> Result<bool, NoMemory> {
+    let mut server = Server::new(alloc);
+    let mut wire = MemWire::new(alloc, turns_of(alloc, session)?, Calls::new(alloc));
+    let mut log = MemLog::new(alloc, failing_at(alloc, Some(0))?);
+    let status = serve(alloc, &mut server, &mut wire, &mut log, 9);
+    Ok(status == Status::LogFault && wire.sent().is_empty() && log.taken().is_empty())
 }
 
 #[test]
 fn serves_turns(rt: HostRuntime) -> Result<(), Fail> {
     let alloc = rt.alloc();
-    let rows = [
-        (0, Status::TurnsSpent { turns: 0 }, 0, 0),
-        (1, Status::TurnsSpent { turns: 1 }, 1, 0),
-        (3, Status::TurnsSpent { turns: 3 }, 3, 1),
-        (5, Status::TurnsSpent { turns: 5 }, 5, 2),
-        (6, Status::Done, 6, 2),
-        (u64::MAX, Status::Done, 6, 2),
-    ];
-    for (turns, status, asked, sent) in rows {
-        let mut server = Server::new(alloc);
-        let mut wire = MemWire::new(alloc, five_turns(alloc)?, Calls::new(alloc));
-        let mut log = SureLog::new(alloc);
-        assert_eq!(rt;
-            serve(alloc, &mut server, &mut wire, &mut log, turns),
-            status
-        );
-        assert_eq!(rt; wire.calls(), asked, "asked for {turns} turns");
-        assert_eq!(rt; wire.sent().as_slice(), &two_rows(alloc)?[..sent]);
-        let logged = if sent == 0 { b"".as_slice() } else { LOGGED };
-        assert_eq!(rt; log.taken().as_slice(), logged);
-        assert!(rt; log.begun().is_empty());
-    }
+    assert_eq!(rt; rows_written(alloc, &OUT_ROWS)?, OUT_ROWS.len());
+    assert_eq!(rt; served(alloc, SESSION, &SERVE_ROWS)?, SERVE_ROWS.len());
+    assert!(rt; keeps_the_reply(alloc, SESSION)?);
     Ok(())
 }
 
-// Where the wire fails nothing of the turns before is missing; where the log fails, its turn's reply is not sent.
-#[test]
-fn stops_at_faults(rt: HostRuntime) -> Result<(), Fail> {
-    let alloc = rt.alloc();
-    let rows = [(0, 0), (1, 0), (2, 1), (3, 1), (4, 2), (5, 2)];
-    for (call, sent) in rows {
-        let mut server = Server::new(alloc);
-        let mut wire = MemWire::new(alloc, five_turns(alloc)?, failing_at(alloc, call)?);
-        let mut log = SureLog::new(alloc);
-        let status = serve(alloc, &mut server, &mut wire, &mut log, 9);
-        assert_eq!(rt; status, Status::WireFault, "at call {call}");
-        assert_eq!(rt; wire.calls(), call + 1);
-        assert_eq!(rt; wire.sent().as_slice(), &two_rows(alloc)?[..sent]);
-        let logged = if sent == 0 { b"".as_slice() } else { LOGGED };
-        assert_eq!(rt; log.taken().as_slice(), logged);
-    }
+// A session, the call at which the output fails and that at which the log does, and then the status, how often the output
+// and the log were called, what each took, and whether the log was begun.
+type PlayRow = (
+    &'static [u8],
+    Option<u64>,
+    Option<u64>,
+    Status,
+    (u64, u64),
+    (&'static [u8], &'static [u8], bool),
+);
 
-    let mut server = Server::new(alloc);
-    let mut wire = MemWire::new(alloc, five_turns(alloc)?, Calls::new(alloc));
-    let mut log = MemLog::new(alloc, failing_at(alloc, 0)?);
-    let status = serve(alloc, &mut server, &mut wire, &mut log, 9);
-    assert_eq!(rt; status, Status::LogFault);
-    assert!(rt; wire.sent().is_empty());
-    assert!(rt; log.taken().is_empty());
-    Ok(())
+// The log is begun only behind the last good line; what failed is not called again.
+static PLAY_ROWS: [PlayRow; 11] = [
+    (
+        SESSION,
+        None,
+        None,
+        Status::Done,
+        (3, 2),
+        (TRANSCRIPT, LOGGED, true),
+    ),
+    (
+        SESSION,
+        None,
+        Some(0),
+        Status::LogFault,
+        (0, 1),
+        (b"", b"", false),
+    ),
+    (
+        SESSION,
+        None,
+        Some(1),
+        Status::LogFault,
+        (0, 2),
+        (b"", b"", true),
+    ),
+    (
+        SESSION,
+        Some(0),
+        None,
+        Status::SinkFault,
+        (1, 2),
+        (b"", LOGGED, true),
+    ),
+    (
+        SESSION,
+        Some(1),
+        None,
+        Status::SinkFault,
+        (2, 2),
+        (b"1 send +OK\\r\\n\n", LOGGED, true),
+    ),
+    (
+        SESSION,
+        Some(2),
+        None,
+        Status::SinkFault,
+        (3, 2),
+        (b"1 send +OK\\r\\n\n2 send $1\\r\\nv\\r\\n\n", LOGGED, true),
+    ),
+    (
+        b"",
+        None,
+        None,
+        Status::Done,
+        (1, 1),
+        (b"end turns=0 keys=0 log=0\n", b"", true),
+    ),
+    (
+        b"\n",
+        None,
+        None,
+        Status::BadInput { line: 1 },
+        (0, 0),
+        (b"", b"", false),
+    ),
+    (
+        b"1000 0 1 opened\n1001 0 2 idle\n1002 0 3 opened\n",
+        None,
+        None,
+        Status::BadInput { line: 2 },
+        (0, 0),
+        (b"", b"", false),
+    ),
+    (
+        b"1000 0 1 opened\n5 0 1 piece \\x41\n",
+        None,
+        None,
+        Status::BadInput { line: 2 },
+        (0, 0),
+        (b"", b"", false),
+    ),
+    (
+        b"1000 0 1 opened\n1000 0 1 piece *3\\r\\n$3\\r\\nSET\\r\\n$1\\r\\nk\\r\\n$1\\r\\nv\\r\\n\n1001 0 1 opened",
+        None,
+        None,
+        Status::BadInput { line: 3 },
+        (0, 0),
+        (b"", b"", false),
+    ),
+];
+
+// The names under which a log was begun: one, or none.
+fn names(alloc: Global, is_begun: bool) -> Result<Words, NoMemory> {
+    let mut names = Words::new(alloc);
+    if is_begun {
+        names.push(Bytes::from_slice(alloc, b"x.log")?)?;
+    }
+    Ok(names)
 }
 
-fn session(alloc: Global) -> Result<Bytes, Fail> {
-    let mut text = Bytes::new(alloc);
-    for line in LINES {
-        text.append(line)?;
-    }
-    Ok(text)
+// Whether this is what was played, with the log begun under these names.
+fn is_played(status: Status, out: &MemSink, log: &MemLog, row: &PlayRow, names: &Words) -> bool {
+    status == row.3
+        && out.calls() == row.4.0
+        && log.calls() == row.4.1
+        && out.taken().as_slice() == row.5.0
+        && log.taken().as_slice() == row.5.1
+        && log.begun() == names
 }
 
-const TRANSCRIPT: &[u8] =
-    b"1 send +OK\\r\\n\n2 send $1\\r\\nv\\r\\n\nend turns=5 keys=1 log=27\nk string - v\n";
+// The same of an output and a log that never fail.
+fn is_surely_played(
+    status: Status,
+    out: &SureSink,
+    log: &SureLog,
+    row: &PlayRow,
+    names: &Words,
+) -> bool {
+    status == row.3
+        && out.taken().as_slice() == row.5.0
+        && log.taken().as_slice() == row.5.1
+        && log.begun() == names
+}
 
-#[test]
-fn plays_a_session(rt: HostRuntime) -> Result<(), Fail> {
-    let alloc = rt.alloc();
-    let session = session(alloc)?;
+fn plays(alloc: Global, row: &PlayRow) -> Result<bool, NoMemory> {
+    let session = Bytes::from_slice(alloc, row.0)?;
+    let out_calls = failing_at(alloc, row.1)?;
+    let log_calls = failing_at(alloc, row.2)?;
+    let names = names(alloc, row.5.2)?;
+    let mut out = MemSink::new(alloc, out_calls);
+    let mut log = MemLog::new(alloc, log_calls);
+    let status = play(alloc, &session, b"x.log", &mut out, &mut log);
+    Ok(is_played(status, &out, &log, row, &names))
+}
+
+// Whether a session is played over an output and a log that never fail.
+fn plays_surely(alloc: Global, row: &PlayRow) -> Result<bool, NoMemory> {
+    let session = Bytes::from_slice(alloc, row.0)?;
+    let names = names(alloc, row.5.2)?;
     let mut out = SureSink::new(alloc);
     let mut log = SureLog::new(alloc);
     let status = play(alloc, &session, b"x.log", &mut out, &mut log);
-    assert_eq!(rt; status, Status::Done);
-    assert_eq!(rt; out.taken().as_slice(), TRANSCRIPT);
-    assert_eq!(rt; log.taken().as_slice(), LOGGED);
-    assert_eq!(rt; log.begun().len(), 1);
-    let name = log.begun().get(0).ok_or("no name")?;
-    assert_eq!(rt; name.as_slice(), b"x.log".as_slice());
-    Ok(())
+    Ok(is_surely_played(status, &out, &log, row, &names))
 }
 
-// What the output and the log took where one of them fails: at the log's begin, at its write, at each line's write.
-#[test]
-fn play_stops_at_faults(rt: HostRuntime) -> Result<(), Fail> {
-    let alloc = rt.alloc();
-    let session = session(alloc)?;
-    for (call, names) in [(0, 0), (1, 1)] {
-        let mut out = SureSink::new(alloc);
-        let mut log = MemLog::new(alloc, failing_at(alloc, call)?);
-        let status = play(alloc, &session, b"x.log", &mut out, &mut log);
-        assert_eq!(rt; status, Status::LogFault);
-        assert_eq!(rt; log.calls(), call + 1);
-        assert!(rt; out.taken().is_empty());
-        assert!(rt; log.taken().is_empty());
-        assert_eq!(rt; log.begun().len(), names);
+// How many rows from the first on are played as told.
+fn played(alloc: Global, rows: &[PlayRow]) -> Result<usize, NoMemory> {
+    for (at, row) in rows.iter().enumerate() {
+        if !plays(alloc, row)? {
+            return Ok(at);
+        }
     }
-    for (call, taken) in [(0, 0), (1, 15), (2, 34)] {
-        let mut out = MemSink::new(alloc, failing_at(alloc, call)?);
-        let mut log = SureLog::new(alloc);
-        let status = play(alloc, &session, b"x.log", &mut out, &mut log);
-        assert_eq!(rt; status, Status::SinkFault);
-        assert_eq!(rt; out.calls(), call + 1);
-        assert_eq!(rt; log.taken().as_slice(), LOGGED);
-        let (front, _) = TRANSCRIPT.split_at(taken);
-        assert_eq!(rt; out.taken().as_slice(), front, "at call {call}");
-    }
-    Ok(())
+    Ok(rows.len())
 }
 
 #[test]
-fn judges_before_it_writes(rt: HostRuntime) -> Result<(), Fail> {
+fn plays_sessions(rt: HostRuntime) -> Result<(), Fail> {
     let alloc = rt.alloc();
-    let rows = [
-        (
-            b"".as_slice(),
-            Status::Done,
-            b"end turns=0 keys=0 log=0\n".as_slice(),
-            1,
-        ),
-        (b"\n", Status::BadInput { line: 1 }, b"", 0),
-        (
-            b"1000 0 1 opened\n1001 0 2 idle\n1002 0 3 opened\n",
-            Status::BadInput { line: 2 },
-            b"",
-            0,
-        ),
-        (
-            b"1000 0 1 opened\n5 0 1 piece \\x41\n",
-            Status::BadInput { line: 2 },
-            b"",
-            0,
-        ),
-        (
-            b"1000 0 1 opened\n1000 0 1 piece *3\\r\\n$3\\r\\nSET\\r\\n$1\\r\\nk\\r\\n$1\\r\\nv\\r\\n\n1001 0 1 opened",
-            Status::BadInput { line: 3 },
-            b"",
-            0,
-        ),
-    ];
-    for (text, status, written, names) in rows {
-        let session = Bytes::from_slice(alloc, text)?;
-        let mut out = SureSink::new(alloc);
-        let mut log = SureLog::new(alloc);
-        assert_eq!(rt; play(alloc, &session, b"x.log", &mut out, &mut log), status);
-        assert_eq!(rt; out.taken().as_slice(), written);
-        assert!(rt; log.taken().is_empty());
-        assert_eq!(rt; log.begun().len(), names, "at {status:?}");
-    }
+    assert_eq!(rt; played(alloc, &PLAY_ROWS)?, PLAY_ROWS.len());
+    assert!(rt; plays_surely(alloc, &PLAY_ROWS[0])?);
     Ok(())
 }

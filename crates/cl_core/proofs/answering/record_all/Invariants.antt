@@ -1,5 +1,5 @@
 use Rattle.std.proofs.Common.{◌≡◌, ◌++◌, map, length}
-use Rattle.ks_space.specs.declared.record.Record.TheVariants.{Del}
+use Rattle.fx_record.specs.declared.record.Record.TheVariants.{Del}
 use Rattle.cl_core.proofs.answering.record_all.Given as goal
 
 abbrev pub invariant-loop-key : goal.invariant-loop-key

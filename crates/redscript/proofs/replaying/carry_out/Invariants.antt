@@ -1,5 +1,5 @@
 use Rattle.std.proofs.Common.{◌≡◌, fold, take}
-use Rattle.ks_space.specs.Store.{apply}
+use Rattle.fx_record.specs.Records.{apply}
 use Rattle.redscript.specs.Replay.{records_of}
 use Rattle.redscript.proofs.replaying.carry_out.Given as goal
 

@@ -1,10 +1,10 @@
-use Rattle.std.proofs.Common.{◌≡◌, ◌<◌, ℕ, List, [], ◌++◌, length, ◌∙◌, arith}
+use Rattle.std.proofs.Common.{◌≡◌, ◌<◌, ℕ, List, [], ◌++◌, length, refl, sym, subst, ◌∙◌, arith}
 use Rattle.std.proofs.lemmas.Bool.Decides.{nat_tests}
 use Rattle.std.proofs.lemmas.Grind.{common_steps}
 use Rattle.std.proofs.lemmas.Result.{on_ok_weaker}
 use Rattle.rs_outside.specs.declared.turn.Turn.{Turn}
 use Rattle.srv_loop.specs.Session.{IsTurn, turn_line}
-use Rattle.srv_loop.proofs.PlayLaws.{UpTo-more, CutsPlay-between, CutsPlay-within, CutsPlay-ending, Played-all, begins_with_line, line_shortens}
+use Rattle.srv_loop.proofs.PlayLaws.{UpTo, UpTo-start, UpTo-more, CutsPlay-between, CutsPlay-within, CutsPlay-ending, Played-all, begins_with_line, line_shortens}
 use Rattle.srv_loop.proofs.playing.play_turns.Goals as goal
 
 pub returns-in_err-turn-clause-cut : goal.returns-in_err-turn-clause-cut
@@ -22,6 +22,16 @@ returns-in_err-bytes-clause-cut g c = λ turns is.
     let some : 0 < length c.loop-rest.rest.now = grind (arith, nat_tests, c.loop-rest-test.ensures) in
     let only = rw c.in-Some.is at c.in_ok-turn.ensures.only in
     CutsPlay-within turns _ _ _ _ _ _ _ _ (c.loop-rest.invariant.playing turns is) c.in-Some.turn c.in-Some.more.now _ _ some only c.in_err-bytes.ensures.cut
+
+pub loop-rest-init : goal.loop-rest-init
+loop-rest-init g c = record {
+  playing = λ turns is. subst (λ server. UpTo turns c.args.session.now server 0 0 (g.L.Sink.taken c.args.log.now) (g.L.Sink.taken c.args.log.now) (g.O.Sink.taken c.args.out.now) (g.O.Sink.taken c.args.out.now))
+      (sym c.new-server.ensures.state) (UpTo-start c.args.session.now turns _ _ is);
+  bound = omega arith;
+  names = refl;
+  log_later = omega arith;
+  out_later = omega arith;
+}
 
 pub loop-rest-preserved : goal.loop-rest-preserved
 loop-rest-preserved g c =

@@ -9,5 +9,5 @@ returns-clause-stands c =
     let stands : StandsFor (Waiting 0 []) [] = subst (λ (s : ReaderState). StandsFor s []) c.new.ensures.state c.new.ensures.stands in
     let row : LongestRow [] [] [] = record { each = tt; text_is = refl; longest = λ others left each e. omega arith } in
     let whole : IsWhole [] [] = record { forms = []; rest = []; row = row; commands_are = refl } in
-    let log : IsLog [] [] None = record { commands = []; whole = whole; begins = stands.2; words_are = refl } in
+    let log : IsLog [] [] None = record { commands = []; whole = whole; begins = stands.2; within = (tt, tt); words_are = refl } in
     (c.new.ensures.stands, ([], log))

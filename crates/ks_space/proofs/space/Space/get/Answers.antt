@@ -1,8 +1,6 @@
-use Rattle.std.proofs.Common.{◌∙◌}
-use Rattle.ks_space.specs.Store.{bytes_cmp}
-use Rattle.ks_space.proofs.KeyOrder.{bytes_total, bytes_exact}
-use Rattle.ks_space.proofs.MapLaws.{get_seen}
+use Rattle.std.proofs.Common.{subst}
+use Rattle.ks_space.specs.Store.{IsStore}
 use Rattle.ks_space.proofs.space.Space.get.Goals as goal
 
-pub returns : goal.returns
-returns c = c.get.ensures.value ∙ get_seen bytes_cmp (λ k. k.items) bytes_total bytes_exact c.self.inside.entries.entries c.args.self.now c.args.key.now c.self.view_is
+pub returns-clause-store : goal.returns-clause-store
+returns-clause-store c = subst IsStore c.self.view_is c.self.invariant.0

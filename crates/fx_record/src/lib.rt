@@ -1,0 +1,16 @@
+//! Effect records: what they do to a store, the words that they are written as, and the steps by which commands carry
+//! them out.
+#![tactic(auto)]
+
+mod laws;
+mod record;
+mod steps;
+#[cfg(test)]
+mod tests;
+
+pub use laws::{
+    each_record_has_its_own_words, records_change_their_key_alone, records_keep_to_the_limits,
+    records_keep_to_the_time, settled_records_lead_to_the_same_store,
+};
+pub use record::{Effects, MAX_DEADLINE, MAX_TEXT_BYTES, Record};
+pub use steps::{apply, carry_out};

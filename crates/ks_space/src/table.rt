@@ -1,0 +1,143 @@
+ghost use Rattle.std.specs.Prelude.{◌≡◌, OnOk, OnErr, IfOk, IfSome, None, slice_get};
+ghost use Rattle.std.specs.Option.{option_copied, option_map};
+ghost use Rattle.std.specs.FinMap as finite;
+ghost use Rattle.ks_space.specs.Store.{deadline_at, with_deadline};
+
+use crate::Entry;
+use crate::iter::Iter;
+use rs_base::{Bytes, NoMemory, Words};
+use std::alloc::{AllocError, Global};
+use std::collections::BTreeMap;
+use std::marker::Model;
+
+/// Keys with their entries, without an index of the deadlines. Contracts see it as a finite map in the order of the keys' bytes.
+#[derive(Drop)]
+pub struct Table {
+    alloc: Global,
+    entries: BTreeMap<Vec<u8>, Entry>,
+}
+
+impl Model for Table {
+    ghost use Rattle.std.specs.Coded.{coded_list, coded_ℕ};
+    ghost use Rattle.std.specs.FinMap as finite;
+    ghost use Rattle.std.proofs.lemmas.Map.Lookups.{map_keys};
+    ghost use Rattle.ks_space.specs.Store.{Store};
+    ghost use Rattle.ks_space.specs.contracts.entry.Entry as entry;
+
+    ghost Value = { Store };
+
+    ghost coded = { finite.code (coded_list coded_ℕ) entry.the_row.coded };
+
+    ghost view = { λ t. finite.from_entries (map_keys (λ k. k.items) t.entries.entries) };
+}
+
+impl Table {
+    pub fn new(alloc: Global) -> Table
+        ensures { result ≡ finite.empty }
+    {
+        Table {
+            alloc,
+            entries: BTreeMap::new(alloc),
+        }
+    }
+
+    pub fn get(&self, key: &[u8]) -> Option<&Entry>
+        ensures { option_copied result ≡ finite.get self.now key.now }
+    {
+        self.entries.get(key)
+    }
+
+    /// Only a new key can want memory.
+    pub fn put(&mut self, key: Bytes, entry: Entry) -> Result<Option<Entry>, NoMemory>
+        ensures old { IfOk result (λ old. old ≡ finite.get self.old key) }
+        ensures ok { OnOk result (self.new ≡ finite.insert self.old key entry) }
+        ensures absent { OnErr result (finite.get self.old key ≡ None) }
+        ensures err { OnErr result (self.new ≡ self.old) }
+    {
+        let old = self.entries.insert(key.into_vec(), entry)?;
+        Ok(old)
+    }
+
+    /// Removes a key, and answers it with its entry: `None` exactly where the key is absent.
+    pub fn cut(&mut self, key: &[u8]) -> Option<(Bytes, Entry)>
+        ensures old { option_map (λ p. p.1) result ≡ finite.get self.old key.now }
+        ensures same { IfSome result (λ p. p.0 ≡ key.now) }
+        ensures left { self.new ≡ finite.remove self.old key.now }
+    {
+        match self.entries.remove_entry(key) {
+            Some((key, entry)) => Some((Bytes::from_vec(key), entry)),
+            None => None,
+        }
+    }
+
+    /// The key's deadline: `None` where the key is absent, too.
+    pub fn deadline(&self, key: &[u8]) -> Option<u64>
+        ensures { result ≡ deadline_at self.now key.now }
+    {
+        self.get(key)?.deadline
+    }
+
+    /// Changes the deadline of a key that is there.
+    pub fn set_deadline(&mut self, key: &[u8], deadline: Option<u64>)
+        ensures { self.new ≡ with_deadline self.old key.now deadline }
+    {
+        if let Some(entry) = self.entries.get_mut(key) {
+            entry.deadline = deadline;
+        }
+    }
+
+    pub fn clear(&mut self)
+        ensures { self.new ≡ finite.empty }
+    {
+        self.entries.clear();
+    }
+
+    pub fn len(&self) -> usize
+        ensures { result ≡ finite.len self.now }
+    {
+        self.entries.len()
+    }
+
+    pub fn keys(&self) -> Result<Words, NoMemory>
+        ensures { IfOk result (λ keys. keys ≡ finite.keys self.now) }
+    {
+        let mut keys = Words::new(self.alloc);
+        for key in self.entries.keys() {
+            keys.push(Bytes::from_slice(self.alloc, key.as_slice())?)?;
+        }
+        Ok(keys)
+    }
+
+    /// The key at `place` in byte order, counted from 0.
+    pub fn key_at(&self, place: usize) -> Option<&[u8]>
+        ensures { option_copied result ≡ slice_get (finite.keys self.now) place }
+    {
+        let mut left = place;
+        for known in self.entries.keys() {
+            if left == 0 {
+                return Some(known.as_slice());
+            }
+            left -= 1;
+        }
+        None
+    }
+
+    pub fn iter(&self) -> Iter<'_>
+        ensures { result ≡ finite.entries self.now }
+    {
+        Iter::new(self.entries.iter())
+    }
+}
+
+impl Clone for Table {
+    ghost use Rattle.std.specs.Prelude.{◌≡◌};
+
+    ghost is_clone = { λ old new. new ≡ old };
+
+    fn clone(&self) -> Result<Table, AllocError> {
+        Ok(Table {
+            alloc: self.alloc,
+            entries: self.entries.clone()?,
+        })
+    }
+}

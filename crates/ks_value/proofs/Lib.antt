@@ -1,0 +1,4 @@
+pub mod FieldLaws
+pub mod Places
+pub mod Seen
+pub mod Sets

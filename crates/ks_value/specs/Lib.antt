@@ -1,0 +1,3 @@
+pub use Rattle.ks_tree.specs.Order
+pub mod Fields
+pub mod Members

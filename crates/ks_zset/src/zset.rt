@@ -1,0 +1,193 @@
+ghost use Rattle.std.specs.Prelude.{◌≡◌, ◌≢◌, ◌↔◌, Some, None, position, count_by, slice_range, IsTrue, IfOk, OnOk, OnErr};
+ghost use Rattle.std.specs.FinMap as finite;
+ghost use Rattle.std.specs.Str.{bytes_eq};
+ghost use Rattle.ks_zset.specs.Zset.{rows_of, is_below};
+
+use crate::Scored;
+use crate::rows::Rows;
+use crate::scores::Scores;
+use rs_base::{Bytes, NoMemory};
+use rs_whole::Whole;
+use std::alloc::{AllocError, Global};
+use std::marker::Model;
+
+/// Members with a score each. Contracts see it as the finite map from member to score, in the order of the members'
+/// bytes; `rows_of` is their list in the order of score and then member.
+#[derive(Debug, Drop)]
+pub struct Zset {
+    scores: Scores,
+    rows: Rows,
+}
+
+impl Model for Zset {
+    ghost use Rattle.std.specs.Prelude.{◌≡◌};
+    ghost use Rattle.std.specs.Coded.{coded_list, coded_ℕ, coded_ℤ};
+    ghost use Rattle.std.specs.FinMap as finite;
+    ghost use Rattle.ks_zset.specs.Zset.{ScoreMap, rows_of};
+
+    ghost Value = { ScoreMap };
+
+    ghost coded = { finite.code (coded_list coded_ℕ) coded_ℤ };
+
+    ghost view = { λ z. z.scores };
+
+    ghost invariant = { λ z. z.rows ≡ rows_of z.scores };
+}
+
+impl Zset {
+    /// No members. It takes no memory.
+    pub fn new(alloc: Global) -> Zset
+        ensures { result ≡ finite.empty }
+    {
+        Zset {
+            scores: Scores::new(alloc),
+            rows: Rows::new(alloc),
+        }
+    }
+
+    /// An equal set.
+    pub fn copy(&self) -> Result<Zset, NoMemory>
+        ensures { IfOk result (λ copy. copy ≡ self.now) }
+    {
+        Ok(self.clone()?)
+    }
+
+    /// The number of members.
+    pub fn len(&self) -> usize
+        ensures { result ≡ finite.len self.now }
+    {
+        self.scores.len()
+    }
+
+    pub fn is_empty(&self) -> bool
+        ensures { IsTrue result ↔ (finite.len self.now ≡ 0) }
+    {
+        self.len() == 0
+    }
+
+    /// The score of a member. `None` exactly where the member is absent.
+    pub fn score(&self, member: &[u8]) -> Option<Whole>
+        ensures { result ≡ finite.get self.now member.now }
+    {
+        self.scores.get(member)
+    }
+
+    /// The place of a member in the order of score and then member, counted from 0. `None` exactly where the member is
+    /// absent.
+    pub fn rank(&self, member: &[u8]) -> Option<usize>
+        ensures { result ≡ position (λ row. bytes_eq row.0 member.now) (rows_of self.now) }
+    {
+        match self.scores.get(member) {
+            None => None,
+            Some(score) => Some(self.rows.place(member, score)),
+        }
+    }
+
+    /// The number of members with a lower score, or with `or_equal` with a lower or equal one.
+    pub fn below(&self, score: Whole, or_equal: bool) -> usize
+        ensures { result ≡ count_by (λ row. is_below or_equal score row.1) (rows_of self.now) }
+    {
+        self.rows.below(score, or_equal)
+    }
+
+    /// The members with their scores at the ranks from `from` up to and without `to`, of those that there are.
+    pub fn ranks(&self, from: usize, to: usize) -> Result<Scored, NoMemory>
+        ensures { IfOk result (λ rows. rows ≡ slice_range (rows_of self.now) from to) }
+    {
+        self.rows.range(from, to)
+    }
+
+    /// Gives a member a score, and answers its old one: `None` exactly where the member was absent. After `NoMemory` the
+    /// set is as it was.
+    pub fn insert(&mut self, member: Bytes, score: Whole) -> Result<Option<Whole>, NoMemory>
+        ensures old { IfOk result (λ old. old ≡ finite.get self.old member) }
+        ensures ok { OnOk result (self.new ≡ finite.insert self.old member score) }
+        ensures err { OnErr result (self.new ≡ self.old) }
+    {
+        match self.scores.get(member.as_slice()) {
+            None => {
+                self.add(member, score)?;
+                Ok(None)
+            }
+            Some(old) => {
+                if old.get() == score.get() {
+                    return Ok(Some(old));
+                }
+                self.replace(member, old, score)?;
+                Ok(Some(old))
+            }
+        }
+    }
+
+    fn add(&mut self, member: Bytes, score: Whole) -> Result<(), NoMemory>
+        requires { finite.get self.old member ≡ None }
+        ensures ok { OnOk result (self.new ≡ finite.insert self.old member score) }
+        ensures err { OnErr result (self.new ≡ self.old) }
+    {
+        let place = self.rows.insert(member.clone()?, score)?;
+        match self.scores.insert(member, score) {
+            Ok(_) => Ok(()),
+            Err(refused) => {
+                self.rows.remove_at(place);
+                Err(refused)
+            }
+        }
+    }
+
+    fn replace(&mut self, member: Bytes, old: Whole, score: Whole) -> Result<(), NoMemory>
+        requires old { finite.get self.old member ≡ Some old }
+        requires apart { old ≢ score }
+        ensures ok { OnOk result (self.new ≡ finite.insert self.old member score) }
+        ensures err { OnErr result (self.new ≡ self.old) }
+    {
+        self.rows.insert(member.clone()?, score)?;
+        self.rows.remove(member.as_slice(), old);
+        // It is not refused, since the member is there.
+        self.scores.insert(member, score)?;
+        Ok(())
+    }
+
+    /// Takes a member away, and answers its score: `None` exactly where the member was absent. It takes no memory.
+    pub fn remove(&mut self, member: &[u8]) -> Option<Whole>
+        ensures old { result ≡ finite.get self.old member.now }
+        ensures rest { self.new ≡ finite.remove self.old member.now }
+    {
+        let old = self.scores.remove(member);
+        if let Some(score) = old {
+            self.rows.remove(member, score);
+        }
+        old
+    }
+}
+
+/// Sets are equal where they have the same members with the same scores.
+impl PartialEq for Zset {
+    ghost use Rattle.ks_zset.specs.Zset.{is_same, is_same_per};
+
+    ghost eq = { is_same };
+
+    ghost laws = { is_same_per };
+
+    fn eq(&self, other: &Zset) -> bool {
+        self.scores == other.scores
+    }
+}
+
+impl Eq for Zset {
+    ghost use Rattle.ks_zset.specs.Zset.{is_same_equiv};
+
+    ghost laws = { is_same_equiv };
+}
+
+impl Clone for Zset {
+    ghost use Rattle.std.specs.Prelude.{◌≡◌};
+
+    ghost is_clone = { λ old new. new ≡ old };
+
+    fn clone(&self) -> Result<Zset, AllocError> {
+        Ok(Zset {
+            scores: self.scores.clone()?,
+            rows: self.rows.clone()?,
+        })
+    }
+}
