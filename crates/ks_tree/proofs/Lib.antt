@@ -1,4 +1,5 @@
 pub mod ByteOrder
+pub mod Depths
 pub mod MapLaws
 pub mod Order
 pub mod Places

@@ -1,5 +1,6 @@
 -- What a tree of items is seen as.
 use Rattle.std.specs.Prelude.{◌≡◌, List, [], ◌∷◌, ◌++◌, length}
+use Rattle.ks_tree.specs.Weights.{AreInBalance}
 use Rattle.ks_tree.specs.declared.tree.Root.{Root}
 use Rattle.ks_tree.specs.declared.tree.Root.TheVariants.{Empty, Full}
 
@@ -12,3 +13,8 @@ items (Full node) = node.value.left ++ node.value.item ∷ node.value.right
 abbrev pub IsCounted : {T : Type 0} → Root T → Type 0
 IsCounted Empty = Unit {0}
 IsCounted (Full node) = node.value.len ≡ length (node.value.left ++ node.value.item ∷ node.value.right)
+
+-- the node's sides are in balance
+abbrev pub IsBalanced : {T : Type 0} → Root T → Type 0
+IsBalanced Empty = Unit {0}
+IsBalanced (Full node) = AreInBalance (length node.value.left) (length node.value.right)

@@ -3,6 +3,7 @@ ghost use Rattle.std.specs.Option.{option_copied};
 ghost use Rattle.std.specs.Fn.{ComputesKey};
 ghost use Rattle.std.specs.List.{AllZip};
 ghost use Rattle.std.specs.List.Sorted.{IsPartitionedBy};
+ghost use Rattle.ks_tree.specs.Weights.{HasRoom, IsShallow};
 
 use crate::tree::{Node, Tree};
 use rs_base::{NoMemory, Seq};
@@ -50,6 +51,15 @@ impl<T> TreeList<T> {
         ensures { IsTrue result ↔ (self.now ≡ []) }
     {
         self.tree.len() == 0
+    }
+
+    /// How many items lie on the longest way down the tree, which is what the other calls' time grows with: between the
+    /// binary logarithm of the weight, which is one more than the length, and 2.41 times that. It visits each item.
+    pub fn depth(&self) -> usize
+        ensures room { HasRoom result (length self.now) }
+        ensures shallow { IsShallow result (length self.now) }
+    {
+        self.tree.depth()
     }
 
     /// The item at `at`, counted from 0, in time of the length's logarithm. `None` exactly where `at` is not below the

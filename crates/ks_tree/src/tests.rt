@@ -11,13 +11,15 @@ enum Call {
     Range(usize, usize),
     Clone,
     Len,
+    Depth,
 }
 
 // Calls in order, and what each answers: a range its items as digits, a clone whether it has the same ones.
-const ROWS: [(Call, Option<u32>); 17] = [
+const ROWS: [(Call, Option<u32>); 18] = [
     (Call::Insert(0, 2), None),
     (Call::Insert(1, 4), None),
     (Call::Insert(0, 1), None),
+    (Call::Depth, Some(2)),
     (Call::Insert(2, 3), None),
     (Call::Insert(4, 5), None),
     (Call::Insert(5, 6), None),
@@ -54,6 +56,7 @@ fn answer(list: &mut TreeList<u32>, call: Call) -> Result<Option<u32>, NoMemory>
         }
         Call::Range(from, to) => return Ok(Some(digits(list, from, to)?)),
         Call::Clone => return Ok(Some(digits(&list.clone()?, 0, 9)?)),
+        Call::Depth => return Ok(Some((list.depth() % 100) as u32)),
         Call::Len => return Ok(Some((list.len() % 100) as u32)),
         Call::Insert(..) | Call::Remove(_) => {}
     }

@@ -1,8 +1,9 @@
-ghost use Rattle.std.specs.Prelude.{◌≡◌, ◌+◌, ◌-◌, ◌<◌, ◌≤◌, ◌^◌, [], ◌∷◌, ◌++◌, Bool, List, Some, length, IsTrue, IfOk, OnOk, insert, remove, count_by, slice_get, slice_range};
+ghost use Rattle.std.specs.Prelude.{◌≡◌, ◌+◌, ◌-◌, ◌*◌, ◌<◌, ◌≤◌, ◌↔◌, ◌^◌, [], ◌∷◌, ◌++◌, Bool, List, Some, length, IsTrue, IfOk, OnOk, insert, remove, count_by, slice_get, slice_range};
 ghost use Rattle.std.specs.Option.{option_copied};
 ghost use Rattle.std.specs.Fn.{ComputesKey};
 ghost use Rattle.std.specs.List.{AllZip};
 ghost use Rattle.std.specs.List.Sorted.{IsPartitionedBy};
+ghost use Rattle.ks_tree.specs.Weights.{AreInBalance, AreNearBalance, HasRoom, IsShallow};
 
 use rs_base::{NoMemory, Seq};
 use std::alloc::{AllocError, AllocFailed, Global};
@@ -45,11 +46,11 @@ impl<T> Model for Tree<T> {
 
     ghost coded = { coded_list T.code };
 
-    ghost use Rattle.ks_tree.specs.Trees.{items, IsCounted};
+    ghost use Rattle.ks_tree.specs.Trees.{items, IsCounted, IsBalanced};
 
     ghost view = { λ t. items t.root };
 
-    ghost invariant = { λ t. IsCounted t.root };
+    ghost invariant = { λ t. IsCounted t.root × IsBalanced t.root };
 
     ghost size = { length };
 
@@ -60,7 +61,8 @@ impl<T> Model for Tree<T> {
 
 /// The two sides with the node's item between them, in the node's own memory.
 fn link<T: Drop>(left: Tree<T>, mut node: Box<Node<T>>, right: Tree<T>) -> Tree<T>
-    requires { length left + length right + 1 < 2 ^ 64 }
+    requires balanced { AreInBalance (length left) (length right) }
+    requires fits { length left + length right + 1 < 2 ^ 64 }
     ensures { result ≡ left ++ node.value.item ∷ right }
 {
     node.len = left.len() + right.len() + 1;
@@ -71,9 +73,10 @@ fn link<T: Drop>(left: Tree<T>, mut node: Box<Node<T>>, right: Tree<T>) -> Tree<
     }
 }
 
-/// The same, balanced, where one side has gained or lost an item since it was.
+/// The same, where one side has gained or lost an item since they were in balance.
 fn balance<T: Drop>(left: Tree<T>, node: Box<Node<T>>, right: Tree<T>) -> Tree<T>
-    requires { length left + length right + 1 < 2 ^ 64 }
+    requires near { AreNearBalance (length left) (length right) }
+    requires fits { length left + length right + 1 < 2 ^ 64 }
     ensures { result ≡ left ++ node.value.item ∷ right }
 {
     if left.outweighs(&right) {
@@ -87,7 +90,8 @@ fn balance<T: Drop>(left: Tree<T>, node: Box<Node<T>>, right: Tree<T>) -> Tree<T
 
 /// A rotation to the left, single or double.
 fn lean_left<T: Drop>(left: Tree<T>, node: Box<Node<T>>, right: Tree<T>) -> Tree<T>
-    requires heavy { 0 < length right }
+    requires heavy { 3 * (length left + 1) < length right + 1 }
+    requires near { AreNearBalance (length left) (length right) }
     requires fits { length left + length right + 1 < 2 ^ 64 }
     ensures { result ≡ left ++ node.value.item ∷ right }
 {
@@ -101,7 +105,8 @@ fn lean_left<T: Drop>(left: Tree<T>, node: Box<Node<T>>, right: Tree<T>) -> Tree
 
 /// A rotation to the right, single or double.
 fn lean_right<T: Drop>(left: Tree<T>, node: Box<Node<T>>, right: Tree<T>) -> Tree<T>
-    requires heavy { 0 < length left }
+    requires heavy { 3 * (length right + 1) < length left + 1 }
+    requires near { AreNearBalance (length left) (length right) }
     requires fits { length left + length right + 1 < 2 ^ 64 }
     ensures { result ≡ left ++ node.value.item ∷ right }
 {
@@ -129,9 +134,25 @@ impl<T> Tree<T> {
         }
     }
 
+    /// How many items lie on the longest way down from the root: 0 where there is none.
+    pub fn depth(&self) -> usize
+        ensures room { HasRoom result (length self.now) }
+        ensures shallow { IsShallow result (length self.now) }
+        ensures within { result ≤ length self.now }
+    {
+        let Root::Full(node) = &self.root else {
+            return 0;
+        };
+        // Asked, so that the length is known to fit.
+        let _len = self.len();
+        let left = node.left.depth();
+        let right = node.right.depth();
+        left.max(right) + 1
+    }
+
     /// Whether it weighs more than three times the other.
     fn outweighs(&self, other: &Tree<T>) -> bool
-        ensures { IsTrue result → 0 < length self.now }
+        ensures { IsTrue result ↔ (3 * (length other.now + 1) < length self.now + 1) }
     {
         // a + 1 > 3 * (b + 1), without a number that could pass the type's end
         self.len() / 3 > other.len()
@@ -139,7 +160,7 @@ impl<T> Tree<T> {
 
     /// Whether it weighs less than twice the other.
     fn is_light_beside(&self, other: &Tree<T>) -> bool
-        ensures { length self.now ≡ 0 → IsTrue result }
+        ensures { IsTrue result ↔ (length self.now + 1 < 2 * (length other.now + 1)) }
     {
         // a + 1 < 2 * (b + 1)
         self.len() / 2 + self.len() % 2 <= other.len()
@@ -149,6 +170,7 @@ impl<T> Tree<T> {
     fn unlink(self) -> (Tree<T>, Box<Node<T>>, Tree<T>)
         requires { 0 < length self }
         ensures items { self ≡ result.0 ++ result.1.value.item ∷ result.2 }
+        ensures balanced { AreInBalance (length result.0) (length result.2) }
         ensures fits { length self < 2 ^ 64 }
     {
         let Root::Full(mut node) = self.root else {
@@ -341,7 +363,8 @@ impl<T: Drop> Tree<T> {
 
 /// The items of both, where they were the sides of one node.
 fn merge<T: Drop>(left: Tree<T>, right: Tree<T>) -> Tree<T>
-    requires { length left + length right < 2 ^ 64 }
+    requires balanced { AreInBalance (length left) (length right) }
+    requires fits { length left + length right < 2 ^ 64 }
     ensures { result ≡ left ++ right }
 {
     if right.len() == 0 {

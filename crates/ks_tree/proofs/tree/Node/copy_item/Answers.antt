@@ -1,5 +1,4 @@
-use Rattle.std.proofs.Common.{◌≡◌, ◌-◌, ◌<◌, ◌++◌, [], ◌∷◌, length, subst, sym, ap, arith}
-use Rattle.std.specs.List.{AllZip, slice_range}
+use Rattle.std.proofs.Common.{◌≡◌, ◌-◌, ◌<◌, length, arith}
 use Rattle.std.proofs.lemmas.Result.{on_ok_weaker}
 use Rattle.std.proofs.lemmas.List.Elements.{AllZip-push}
 use Rattle.ks_tree.proofs.Sides.{slice_range-one}

@@ -1,5 +1,5 @@
-use Rattle.std.proofs.Common.{◌≡◌, ◌+◌, ◌-◌, ◌++◌, ◌∷◌, [], ◌∙◌, ap, sym, length}
-use Rattle.std.specs.List.{AllZip, slice_range}
+use Rattle.std.proofs.Common.{◌≡◌, ◌-◌, ◌++◌, ◌∷◌, [], ◌∙◌, ap, sym, length}
+use Rattle.std.specs.List.{slice_range}
 use Rattle.std.proofs.lemmas.Result.{on_ok_weaker}
 use Rattle.ks_tree.specs.Trees.{items}
 use Rattle.ks_tree.proofs.Sides.{range_copied}

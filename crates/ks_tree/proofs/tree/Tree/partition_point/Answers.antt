@@ -1,6 +1,5 @@
-use Rattle.std.proofs.Common.{◌≡◌, ◌+◌, ◌-◌, ◌≤◌, ◌++◌, ◌∷◌, ◌∙◌, Bool, true, false, length, length-append, count_by, ap, sym, refl, arith}
+use Rattle.std.proofs.Common.{◌≡◌, ◌++◌, ◌∷◌, ◌∙◌, length-append, count_by, ap, sym, refl, arith}
 use borrow.Author.Rules.{of_calls}
-use Rattle.std.specs.List.Sorted.{IsPartitionedBy}
 use Rattle.std.proofs.lemmas.Fn.{called}
 use Rattle.std.proofs.slice.Orders.{answers_next}
 use Rattle.ks_tree.specs.Trees.{items}
