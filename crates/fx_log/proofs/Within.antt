@@ -1,5 +1,5 @@
 -- Records that are read are within the limits.
-use Rattle.std.proofs.Common.{◌≡◌, ℕ, true, cond, is_some, Option, Some, None, List, [], ◌∷◌, ◌++◌, refl, sym, subst}
+use Rattle.std.proofs.Common.{◌≡◌, ℕ, cond, is_some, Option, Some, None, List, [], ◌∷◌, ◌++◌, subst}
 use Rattle.std.specs.List.{All, AllByRecursion}
 use Rattle.std.proofs.lemmas.List.Elements.{All-from_recursion}
 use Rattle.fx_record.specs.declared.record.Record.{Record}
@@ -11,7 +11,7 @@ use Rattle.fx_log.specs.declared.group.Group.{Group}
 use Rattle.fx_log.specs.Groups.{IsWithin}
 use Rattle.fx_log.specs.Items.{IsOpen}
 use Rattle.fx_log.specs.Entries.{entry_of, fits, kind_of, groups_at, open_after}
-use Rattle.fx_log.specs.Reading.{LogRead, Reads, Breaks, read_from}
+use Rattle.fx_log.specs.Reading.{Reads, Breaks, read_from}
 use Rattle.fx_log.proofs.Cases.{by_test}
 use Rattle.fx_log.proofs.EntryLaws.{AreWordsOf, entry-words}
 use Rattle.fx_log.proofs.Runs.{each-append}

@@ -2,7 +2,7 @@ ghost use Rattle.std.specs.Prelude.{All};
 ghost use Rattle.fx_log.specs.Groups.{IsWithin};
 
 use crate::{
-    Effects, Group, LogKind, LogReader, LogStop, Record, dump, groups_are_read_back,
+    Group, LogKind, LogReader, LogStop, Record, dump, groups_are_read_back,
     log_reading_is_the_grammar, replay_into, write_group,
 };
 use ks_space::Space;
@@ -46,69 +46,108 @@ fn name(kind: LogKind) -> &'static [u8] {
     }
 }
 
-// Feeds a piece, and adds what the reader answers: nothing for a piece without groups.
-fn feed(
-    alloc: Global,
-    reader: &mut LogReader,
-    piece: &[u8],
-    out: &mut Bytes,
-) -> Result<(), NoMemory> {
-    match reader.feed(piece) {
-        Ok(groups) => tell_all(alloc, groups.as_slice(), out),
-        Err(
-            LogStop::Bad {
-                before,
-                place,
-                kind,
-            },
-        ) => {
+// Adds what was bad, with the groups before it; nothing for a reader that has failed before.
+fn tell_stop(alloc: Global, stop: LogStop, out: &mut Bytes) -> Result<(), NoMemory> {
+    match stop {
+        LogStop::Bad {
+            before,
+            place,
+            kind,
+        } => {
             tell_all(alloc, before.as_slice(), out)?;
             out.append(b" bad ")?;
             write_decimal(place, out)?;
             out.append(name(kind))
         }
-        Err(LogStop::Failed) => Ok(()),
-        Err(LogStop::NoMemory) => Err(NoMemory),
+        LogStop::Failed => Ok(()),
+        LogStop::NoMemory => Err(NoMemory),
     }
 }
 
-// Whether a reader answers so to `first` and then the rest in pieces of `size` bytes.
-fn reads(
+fn replay_all(space: &mut Space, groups: &[Group]) -> Result<(), NoMemory>
+    requires { All IsWithin groups.now }
+{
+    for group in groups {
+        replay_into(space, group)?;
+    }
+    Ok(())
+}
+
+// Feeds a piece, adds what the reader answers, which is nothing for a piece without groups, and replays the groups.
+fn feed(
     alloc: Global,
-    first: &[u8],
-    rest: &[u8],
+    reader: &mut LogReader,
+    space: &mut Space,
+    piece: &[u8],
+    out: &mut Bytes,
+) -> Result<(), NoMemory> {
+    match reader.feed(piece) {
+        Ok(groups) => {
+            replay_all(space, groups.as_slice())?;
+            tell_all(alloc, groups.as_slice(), out)
+        }
+        Err(stop) => tell_stop(alloc, stop, out),
+    }
+}
+
+// A log as `first` and then the rest in pieces of `size` bytes.
+#[derive(Clone, Copy)]
+struct Cut<'a> {
+    first: &'a [u8],
+    rest: &'a [u8],
     size: usize,
-    want: &[u8],
-) -> Result<bool, NoMemory> {
-    let mut out = Bytes::new(alloc);
-    let mut reader = LogReader::new(alloc);
-    feed(alloc, &mut reader, first, &mut out)?;
-    if size > 0 {
-        for piece in rest.chunks(size) {
-            feed(alloc, &mut reader, piece, &mut out)?;
+}
+
+fn read(
+    alloc: Global,
+    cut: Cut<'_>,
+    reader: &mut LogReader,
+    space: &mut Space,
+    out: &mut Bytes,
+) -> Result<(), NoMemory> {
+    feed(alloc, reader, space, cut.first, out)?;
+    if cut.size > 0 {
+        for piece in cut.rest.chunks(cut.size) {
+            feed(alloc, reader, space, piece, out)?;
         }
     }
+    dump(space, out)
+}
+
+fn reads(alloc: Global, cut: Cut<'_>, want: &[u8]) -> Result<bool, NoMemory> {
+    let mut out = Bytes::new(alloc);
+    let mut reader = LogReader::new(alloc);
+    let mut space = Space::new(alloc);
+    read(alloc, cut, &mut reader, &mut space, &mut out)?;
     Ok(out.as_slice() == want)
 }
 
-// Whether a log is read so whole and in each cut, with the rest whole or byte by byte.
+// Whether a log is read so in each cut, with the rest whole and byte by byte.
 fn reads_cut(alloc: Global, text: &[u8], want: &[u8]) -> Result<bool, NoMemory> {
     for at in 0..text.len() {
         let (first, rest) = text.split_at(at);
-        if !reads(alloc, first, rest, 1, want)? || !reads(alloc, first, rest, text.len(), want)? {
-            return Ok(false);
+        for size in [1, text.len()] {
+            if !reads(alloc, Cut { first, rest, size }, want)? {
+                return Ok(false);
+            }
         }
     }
-    reads(alloc, text, b"", 1, want)
+    Ok(true)
 }
 
-// Logs, and what a reader answers to them.
+// Logs, and what a reader answers to them, with the dump of the store that their groups leave.
 static ROWS: [(&[u8], &[u8]); 16] = [
-    (b"", b""),
-    (LOG, b" SET a 1 SET b 2 wrapped;"),
+    (
+        LOG,
+        b" SET a 1 SET b 2 wrapped;a string - 1\nb string - 2\n",
+    ),
+    (
+        b"*1\r\n$5\r\nMULTI\r\n*3\r\n$3\r\nSET\r\n$1\r\na\r\n$1\r\n1\r\n*1\r\n$4\r\nEXEC\r",
+        b"",
+    ),
     (
         b"*2\r\n$3\r\nDEL\r\n$1\r\na\r\n*0\r\n*3\r\n$3\r\nSET\r\n$0\r\n\r\n$1\r\n1\r\n*-1\r\n",
-        b" DEL a; SET \\e 1;",
+        b" DEL a; SET \\e 1;\\e string - 1\n",
     ),
     (b"*1\r\n$5\r\nMULTI\r\n*0\r\n*1\r\n$4\r\nEXEC\r\n", b""),
     (
@@ -150,116 +189,6 @@ fn agreeing(alloc: Global, rows: &[(&[u8], &[u8])]) -> Result<usize, NoMemory> {
     Ok(rows.len())
 }
 
-// Replays a piece of a log: whether it was read, with the place of what was bad in it.
-fn replay_piece(
-    reader: &mut LogReader,
-    space: &mut Space,
-    piece: &[u8],
-    count: &mut u64,
-) -> Result<Option<u64>, NoMemory> {
-    match reader.feed(piece) {
-        Ok(groups) => {
-            *count = count.saturating_add(groups.len() as u64);
-            replay_all(space, groups.as_slice())?;
-            Ok(None)
-        }
-        Err(LogStop::Bad { place, .. }) => Ok(Some(place)),
-        Err(_) => Err(NoMemory),
-    }
-}
-
-fn replay_all(space: &mut Space, groups: &[Group]) -> Result<(), NoMemory>
-    requires { All IsWithin groups.now }
-{
-    for group in groups {
-        replay_into(space, group)?;
-    }
-    Ok(())
-}
-
-// Adds the line of what was replayed, and the dump.
-fn tell_replay(space: &Space, groups: u64, out: &mut Bytes) -> Result<(), NoMemory> {
-    out.append(b"groups=")?;
-    write_decimal(groups, out)?;
-    out.append(b" keys=")?;
-    write_decimal(space.len() as u64, out)?;
-    out.append(b"\n")?;
-    dump(space, out)
-}
-
-// Adds how many groups a log has, how many keys there are then, and the dump; or the bad place.
-fn replay(
-    log: &[u8],
-    size: usize,
-    reader: &mut LogReader,
-    space: &mut Space,
-    out: &mut Bytes,
-) -> Result<(), NoMemory> {
-    let mut groups = 0u64;
-    if size == 0 {
-        return Ok(());
-    }
-    for piece in log.chunks(size) {
-        if let Some(place) = replay_piece(reader, space, piece, &mut groups)? {
-            out.append(b"bad ")?;
-            return write_decimal(place, out);
-        }
-    }
-    tell_replay(space, groups, out)
-}
-
-// Whether a log in pieces of `size` bytes is replayed so.
-fn replays(alloc: Global, log: &[u8], size: usize, want: &[u8]) -> Result<bool, NoMemory> {
-    let mut reader = LogReader::new(alloc);
-    let mut space = Space::new(alloc);
-    let mut out = Bytes::new(alloc);
-    replay(log, size, &mut reader, &mut space, &mut out)?;
-    Ok(out.as_slice() == want)
-}
-
-// Logs in pieces of so many bytes, and what is told of their replay.
-static REPLAYS: [(&[u8], usize, &[u8]); 4] = [
-    (LOG, 1, b"groups=1 keys=2\na string - 1\nb string - 2\n"),
-    (LOG, 83, b"groups=1 keys=2\na string - 1\nb string - 2\n"),
-    (
-        b"*1\r\n$5\r\nMULTI\r\n+3\r\n$3\r\nSET\r\n$1\r\na\r\n$1\r\n1\r\n*3\r\n$3\r\nSET\r\n$1\r\nb\r\n$1\r\n2\r\n*1\r\n$4\r\nEXEC\r\n",
-        4,
-        b"bad 15",
-    ),
-    (b"*1\r\n$4\r\nEXEC\r\n", 14, b"bad 0"),
-];
-
-// How many logs from the first on are replayed as told.
-fn replayed(alloc: Global, rows: &[(&[u8], usize, &[u8])]) -> Result<usize, NoMemory> {
-    for (at, (log, size, want)) in rows.iter().enumerate() {
-        if !replays(alloc, log, *size, want)? {
-            return Ok(at);
-        }
-    }
-    Ok(rows.len())
-}
-
-// The first front of a log that leaves a group; the log's length, where none does.
-fn first_front_with_a_group(alloc: Global, log: &[u8]) -> Result<usize, NoMemory> {
-    for at in 0..log.len() {
-        let (front, _) = log.split_at(at);
-        if !replays(alloc, front, 7, b"groups=0 keys=0\n")? {
-            return Ok(at);
-        }
-    }
-    Ok(log.len())
-}
-
-#[test]
-fn reads_and_replays(rt: HostRuntime) -> Result<(), Fail> {
-    let alloc = rt.alloc();
-    log_reading_is_the_grammar();
-    assert_eq!(rt; agreeing(alloc, &ROWS)?, ROWS.len());
-    assert_eq!(rt; replayed(alloc, &REPLAYS)?, REPLAYS.len());
-    assert_eq!(rt; first_front_with_a_group(alloc, LOG)?, 83);
-    Ok(())
-}
-
 fn write_all(groups: &[Group], out: &mut Bytes) -> Result<(), NoMemory> {
     for group in groups {
         write_group(group, out)?;
@@ -267,53 +196,21 @@ fn write_all(groups: &[Group], out: &mut Bytes) -> Result<(), NoMemory> {
     Ok(())
 }
 
-// Whether a log of one group is written back.
+// Whether a log of groups is written as it was read.
 fn writes_back(alloc: Global, log: &[u8]) -> Result<bool, NoMemory> {
     let mut out = Bytes::new(alloc);
-    let mut reader = LogReader::new(alloc);
-    let Ok(groups) = reader.feed(log) else {
-        return Ok(false);
-    };
-    write_all(groups.as_slice(), &mut out)?;
-    Ok(groups.len() == 1 && out.as_slice() == log)
-}
-
-// Whether a group of DEL a that stands bare is written so.
-fn writes_bare(alloc: Global, want: &[u8]) -> Result<bool, NoMemory> {
-    let key = Bytes::from_slice(alloc, b"a")?;
-    let mut out = Bytes::new(alloc);
-    let mut records = Effects::new(alloc);
-    records.push(Record::Del { key })?;
-    let group = Group {
-        records,
-        wrapped: false,
-    };
-    write_group(&group, &mut out)?;
-    Ok(out.as_slice() == want)
-}
-
-fn has_failed(reader: &mut LogReader, piece: &[u8]) -> bool {
-    matches!(reader.feed(piece), Err(LogStop::Failed))
-}
-
-// Whether a reader stays failed behind a bad byte at `at`.
-fn stays_failed(alloc: Global, log: &[u8], at: u64) -> bool {
-    let mut reader = LogReader::new(alloc);
-    let is_read = reader.feed(log).is_ok();
-    let is_bad = matches!(reader.feed(b"+"), Err(LogStop::Bad { place, .. }) if place == at);
-    is_read
-        && is_bad
-        && has_failed(&mut reader, b"")
-        && has_failed(&mut reader, log)
-        && has_failed(&mut reader, b"+")
+    if let Ok(groups) = LogReader::new(alloc).feed(log) {
+        write_all(groups.as_slice(), &mut out)?;
+    }
+    Ok(out.as_slice() == log)
 }
 
 #[test]
-fn writes_and_stays_failed(rt: HostRuntime) -> Result<(), Fail> {
-    let alloc = rt.alloc();
+fn reads_replays_and_writes(rt: HostRuntime) -> Result<(), Fail> {
+    log_reading_is_the_grammar();
     groups_are_read_back();
-    assert!(rt; writes_back(alloc, LOG)?);
-    assert!(rt; writes_bare(alloc, b"*2\r\n$3\r\nDEL\r\n$1\r\na\r\n")?);
-    assert!(rt; stays_failed(alloc, LOG, 83));
+    assert_eq!(rt; agreeing(rt.alloc(), &ROWS)?, ROWS.len());
+    assert!(rt; writes_back(rt.alloc(), LOG)?);
+    assert!(rt; writes_back(rt.alloc(), b"*2\r\n$3\r\nDEL\r\n$1\r\na\r\n")?);
     Ok(())
 }

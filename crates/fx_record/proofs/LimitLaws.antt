@@ -1,10 +1,10 @@
 -- Limits and deadlines of a store after records.
-use Rattle.std.proofs.Common.{◌≡◌, ◌≢◌, ℕ, ◌≤◌, List, [], ◌∷◌, Option, Some, None, fold, inl, inr, refl, sym, ap, subst, ◌∙◌}
+use Rattle.std.proofs.Common.{◌≡◌, ℕ, ◌≤◌, List, [], ◌∷◌, Option, Some, None, inl, inr, refl, sym, ap, subst, ◌∙◌}
 use Rattle.std.specs.List.{AllByRecursion}
 use Rattle.std.specs.Option.{IfSome, option_and_then}
 use Rattle.std.specs.FinMap as finite
 use Rattle.ks_space.specs.declared.entry.Entry.{Entry}
-use Rattle.ks_space.specs.Store.{Store, IsKey, IsShort, IsDeadline, IsKept, IsStore, deadline_at, with_deadline}
+use Rattle.ks_space.specs.Store.{Store, IsKey, IsDeadline, IsKept, IsStore, deadline_at, with_deadline}
 use Rattle.ks_space.specs.Purge.{IsTimely}
 use Rattle.fx_record.specs.declared.record.Record.{Record}
 use Rattle.fx_record.specs.declared.record.Record.TheVariants.{Set, SetUntil, SetKeeping, Del, ExpireAt, Persist, Rename, FlushAll}

@@ -1,7 +1,6 @@
 -- Records that are kept, and stores that are told apart by their codes.
-use Rattle.std.proofs.Common.{◌≡◌, ◌≢◌, ℕ, Bool, true, false, cond, ◌&&◌, eqb, List, [], ◌∷◌, ◌↔◌, Decides, refl, ap, sym, subst, ◌∙◌}
+use Rattle.std.proofs.Common.{◌≡◌, ◌≢◌, Bool, true, false, cond, ◌&&◌, eqb, List, [], ◌↔◌, Decides, refl, ap, sym, subst, ◌∙◌}
 use Rattle.std.proofs.lemmas.Bool.Decides.{Decides-eqb}
-use Rattle.std.specs.FinMap as finite
 use base.Stored.{Gv, gnil, gnum, gcons}
 use Rattle.ks_space.specs.Store.{Store}
 use Rattle.fx_record.specs.declared.record.Record.{Record}

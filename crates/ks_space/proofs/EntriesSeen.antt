@@ -1,6 +1,5 @@
--- The entries of an ordered map whose keys are seen through a function, when they are copied and when a value changes.
-use Rattle.std.proofs.Common.{◌≡◌, Bool, true, false, cond, Ordering, List, [], ◌∷◌, Option, Some, None, map, refl, sym, ap, ◌∙◌}
-use Rattle.std.specs.List.{AllZip}
+-- The entries of an ordered map whose keys are seen through a function, when a value changes.
+use Rattle.std.proofs.Common.{◌≡◌, Bool, true, false, cond, Ordering, List, [], ◌∷◌, Option, Some, map, refl, sym, ap, ◌∙◌}
 use Rattle.std.specs.Ordering.{is_eq}
 use Rattle.std.specs.Cmp.{IsTotalOrder, alike_right, Equal-is}
 use Rattle.std.specs.Map.{lookup, set_value}
@@ -11,13 +10,6 @@ use Rattle.std.proofs.lemmas.Map.Lookups.{map_keys}
 use Rattle.ks_tree.proofs.MapLaws.{get_seen}
 
 module _ {K Q X : Type 0} (R : Q → Q → Ordering) (f : K → Q) where
-  -- entries with the same keys as they are seen, and the same values
-  pub clones_seen : (S : K → K → Type 0) → ((x y : K) → S x y → f y ≡ f x) → (es fs : List (K × X)) → AllZip (λ d e. S d.0 e.0 × (e.1 ≡ d.1)) es fs → map_keys f fs ≡ map_keys f es
-  clones_seen S same [] [] h = refl
-  clones_seen S same [] (e ∷ fs) h = absurd h
-  clones_seen S same (d ∷ es) [] h = absurd h
-  clones_seen S same (d ∷ es) (e ∷ fs) h = λ i. (same d.0 e.0 h.0.0 i, h.0.1 i) ∷ clones_seen S same es fs h.1 i
-
   at : Q → List (K × X) → Option X
   at q es = lookup (λ x. is_eq (R q (f x))) es
 

@@ -7,12 +7,10 @@ use Rattle.std.specs.Cmp.{tied_itself, ranked, Equal-is}
 use Rattle.std.proofs.lemmas.Bool.Decides.{nat_tests}
 use Rattle.std.specs.FinMap as finite
 use Rattle.std.specs.FinMap.{nat_cmp-IsAntisymmetric}
-use Rattle.ks_space.specs.declared.entry.Entry.{Entry}
 use Rattle.ks_space.specs.declared.deadlines.Due.{Due}
 use Rattle.ks_space.specs.Store.{bytes_cmp, Store, deadline_at}
 use Rattle.ks_space.specs.Purge.{due_cmp, dues, gone, purged}
 use Rattle.ks_space.specs.Index.{IsIndex, is_due, is_at, has_due}
-use Rattle.ks_tree.proofs.ByteOrder.{bytes_total, bytes_exact}
 use Rattle.ks_space.proofs.Dues.{any-dues, due_total, index_of, dues-remove}
 
 pub is_at-true : (d : Option ℕ) (n : ℕ) → is_at d n ≡ true → d ≡ Some n

@@ -1,5 +1,5 @@
 -- Which keys leave at a purge, and what it keeps.
-use Rattle.std.proofs.Common.{◌≡◌, ◌↔◌, ℕ, ◌<◌, ◌≤◌, nat_lt, Bool, true, false, cond, Ordering, List, [], ◌∷◌, Option, Some, None, option_and_then, map, filter, fold, Contains, IfSome, IsSomeAnd, refl, sym, ap, subst, ◌∙◌, Less, Equal, Greater, nat_cmp, arith, ◌||◌, ◌&&◌, true≢false}
+use Rattle.std.proofs.Common.{◌≡◌, ◌↔◌, ℕ, ◌<◌, ◌≤◌, nat_lt, Bool, true, false, cond, List, [], ◌∷◌, Option, Some, None, option_and_then, map, filter, fold, Contains, IfSome, IsSomeAnd, refl, sym, ap, subst, ◌∙◌, Less, Equal, nat_cmp, arith, ◌||◌, ◌&&◌, true≢false}
 use Rattle.std.specs.List.{AllByRecursion, list_any}
 use Rattle.std.specs.List.Sorted.{IsStrictlySortedBy}
 use Rattle.std.specs.Ordering.{is_eq, eq_by_cmp, ordering_then}
@@ -9,12 +9,11 @@ use Rattle.std.proofs.lemmas.Bool.Decides.{nat_tests}
 use Rattle.std.proofs.lemmas.List.Kept.{IsStrictlySortedBy-filter}
 use Rattle.std.proofs.lemmas.Map.Views.{list_any-from_Contains, Contains-from_any}
 use Rattle.std.specs.FinMap as finite
-use Rattle.std.specs.FinMap.{nat_cmp-IsAntisymmetric}
 use Rattle.ks_space.specs.declared.entry.Entry.{Entry}
 use Rattle.ks_space.specs.declared.deadlines.Due.{Due}
 use Rattle.ks_space.specs.Store.{bytes_cmp, Store, deadline_at}
 use Rattle.ks_space.specs.Purge.{due_cmp, dues, gone, purged, by_deadline, IsTimely}
-use Rattle.ks_space.specs.Index.{is_at, has_due}
+use Rattle.ks_space.specs.Index.{is_at}
 use Rattle.ks_tree.proofs.ByteOrder.{bytes_total, bytes_exact}
 use Rattle.ks_space.proofs.Dues.{any-dues, sorted-dues, due_total, due_exact}
 use Rattle.ks_space.proofs.Gone.{is_at-true}

@@ -1,11 +1,11 @@
 -- What a store may hold stays so.
-use Rattle.std.proofs.Common.{◌≡◌, ℕ, Bool, true, false, cond, List, Option, Some, None, IfSome, refl, sym, ap, subst, ◌∙◌, unwrap_or}
+use Rattle.std.proofs.Common.{◌≡◌, ℕ, Bool, true, false, cond, List, Option, Some, None, refl, sym, ap, subst, ◌∙◌, unwrap_or}
 use Rattle.std.specs.Option.{option_map_or}
 use Rattle.std.specs.Ordering.{eq_by_cmp}
 use Rattle.std.specs.Cmp.{Equal-is}
 use Rattle.std.specs.FinMap as finite
 use Rattle.ks_space.specs.declared.entry.Entry.{Entry}
-use Rattle.ks_space.specs.Store.{bytes_cmp, Store, IsKey, IsKept, IsDeadline, IsStore, with_deadline}
+use Rattle.ks_space.specs.Store.{bytes_cmp, Store, IsKey, IsKept, IsStore, with_deadline}
 use Rattle.ks_tree.proofs.ByteOrder.{bytes_total, bytes_exact}
 
 same_Some : {A : Type 0} (x y : A) → Some x ≡ Some y → x ≡ y

@@ -126,7 +126,7 @@ impl Space {
     }
 
     /// Removes the keys whose deadline is below `now`, and answers them in the order of their deadlines and then of
-    /// their bytes. After `NoMemory` some of them may have left, and nothing else has changed.
+    /// their bytes. After `NoMemory` the purge at `now` would leave the same store as before.
     pub fn purge(&mut self, now: u64) -> Result<Words, NoMemory>
         ensures keys { IfOk result (λ keys. keys ≡ gone self.old now) }
         ensures ok { OnOk result (self.new ≡ purged self.old now) }

@@ -1,27 +1,20 @@
-ghost use Rattle.std.specs.Prelude.{IfOk, IfSome};
-ghost use Rattle.ks_space.specs.Store.{IsKey, IsValue, IsDeadline};
+ghost use Rattle.std.specs.Prelude.{IfSome};
+ghost use Rattle.ks_space.specs.Store.{IsDeadline};
 
-use crate::{Entry, Space, Value};
+use crate::{
+    Entry, Space, Value, purge_removes_the_keys_past_their_deadline,
+    stores_with_equal_entries_are_equal,
+};
 use ks_value::{HashValue, ListValue, SetValue};
 use ks_zset::Zset;
 use rs_base::{Bytes, NoMemory, write_decimal};
-use rs_whole::Whole;
 use std::alloc::Global;
 use std::test::Fail;
 
 // As many bytes as a key or a text may have.
 const SHORT: usize = 16_777_216;
 
-// A deadline or a time fits 32 bits here.
-#[derive(Clone, Copy)]
-enum Step<'a> {
-    Put(&'a [u8], &'a [u8], Option<u32>),
-    Take(&'a [u8]),
-    Expire(&'a [u8], Option<u32>),
-    Purge(u64),
-    Clear,
-}
-
+// A deadline fits 32 bits here.
 fn wide(deadline: Option<u32>) -> Option<u64>
     ensures { IfSome result IsDeadline }
 {
@@ -29,6 +22,38 @@ fn wide(deadline: Option<u32>) -> Option<u64>
         Some(at) => Some(u64::from(at)),
         None => None,
     }
+}
+
+fn tell_entry(entry: &Entry, out: &mut Bytes) -> Result<(), NoMemory> {
+    if let Value::Str(text) = &entry.value {
+        out.append(text.as_slice())?;
+    }
+    if let Some(at) = entry.deadline {
+        out.push(b'@')?;
+        write_decimal(at, out)?;
+    }
+    Ok(())
+}
+
+fn tell_taken(taken: Option<Entry>, out: &mut Bytes) -> Result<(), NoMemory> {
+    match taken {
+        Some(entry) => tell_entry(&entry, out),
+        None => out.push(b'-'),
+    }
+}
+
+fn tell_answer(answer: bool, out: &mut Bytes) -> Result<(), NoMemory> {
+    out.push(if answer { b'+' } else { b'-' })
+}
+
+fn tell_store(space: &Space, out: &mut Bytes) -> Result<(), NoMemory> {
+    for (key, entry) in space.iter() {
+        out.push(b' ')?;
+        out.append(key)?;
+        out.push(b'=')?;
+        tell_entry(entry, out)?;
+    }
+    Ok(())
 }
 
 fn put(
@@ -48,206 +73,85 @@ fn put(
     space.put(Bytes::from_slice(alloc, key)?, entry)
 }
 
-fn write_value(value: &Value, out: &mut Bytes) -> Result<(), NoMemory> {
-    match value {
-        Value::Str(text) => out.append(text.as_slice())?,
-        Value::List(items) => {
-            for item in items.iter() {
-                out.append(item.as_slice())?;
-            }
-        }
-        Value::Hash(pairs) => {
-            for (field, value) in pairs.iter() {
-                out.append(field)?;
-                out.append(value.as_slice())?;
-            }
-        }
-        Value::Set(members) => {
-            for member in members.iter() {
-                out.append(member)?;
-            }
-        }
-        Value::Sorted(scores) => {
-            for (member, _) in scores.ranks(0, scores.len())?.as_slice() {
-                out.append(member.as_slice())?;
-            }
-        }
+fn fill(alloc: Global, space: &mut Space, out: &mut Bytes) -> Result<(), NoMemory> {
+    tell_taken(put(alloc, space, b"b", b"1", None)?, out)?;
+    tell_taken(put(alloc, space, b"a", b"2", Some(7))?, out)?;
+    tell_taken(put(alloc, space, b"b", b"3", Some(5))?, out)?;
+    tell_taken(put(alloc, space, b"ab", b"4", Some(5))?, out)?;
+    tell_taken(put(alloc, space, b"z", b"5", Some(9))?, out)?;
+    tell_store(space, out)
+}
+
+fn purge(space: &mut Space, now: u64, out: &mut Bytes) -> Result<(), NoMemory> {
+    out.push(b'|')?;
+    for key in space.purge(now)?.as_slice() {
+        out.append(key.as_slice())?;
+        out.push(b',')?;
     }
     Ok(())
 }
 
-fn write_entry(entry: &Entry, out: &mut Bytes) -> Result<(), NoMemory> {
-    write_value(&entry.value, out)?;
-    if let Some(at) = entry.deadline {
-        out.push(b'@')?;
-        write_decimal(at, out)?;
-    }
-    Ok(())
+// A key stays up to its deadline, and the keys leave in the order of their deadlines and then of their bytes.
+fn change(space: &mut Space, out: &mut Bytes) -> Result<(), NoMemory> {
+    tell_answer(space.set_deadline(b"a", None)?, out)?;
+    tell_answer(space.set_deadline(b"c", Some(1))?, out)?;
+    tell_answer(space.set_deadline(b"z", Some(4))?, out)?;
+    purge(space, 4, out)?;
+    purge(space, 6, out)?;
+    tell_store(space, out)
 }
 
-fn write_answer(answer: Option<Entry>, out: &mut Bytes) -> Result<(), NoMemory> {
-    match answer {
-        Some(entry) => write_entry(&entry, out),
-        None => out.append(b"none"),
+fn tell_keys(space: &Space, out: &mut Bytes) -> Result<(), NoMemory> {
+    for key in space.keys()?.as_slice() {
+        out.append(key.as_slice())?;
     }
+    out.append(space.key_at(0).unwrap_or(b"-"))?;
+    tell_answer(space.get(b"a").is_some(), out)?;
+    tell_answer(space.len() == 1 && !space.is_empty(), out)
 }
 
-fn write_store(space: &Space, out: &mut Bytes) -> Result<(), NoMemory> {
-    for (key, entry) in space.iter() {
-        out.push(b' ')?;
-        out.append(key)?;
-        out.push(b'=')?;
-        write_entry(entry, out)?;
-    }
-    Ok(())
+fn snapshot(space: &mut Space, out: &mut Bytes) -> Result<(), NoMemory> {
+    let copy = space.snapshot()?;
+    tell_taken(space.take(b"a"), out)?;
+    space.clear();
+    tell_store(&copy, out)
 }
 
-// Takes a step, and tells its answer.
-fn take_step(
-    alloc: Global,
-    space: &mut Space,
-    step: Step<'_>,
-    out: &mut Bytes,
-) -> Result<(), NoMemory> {
-    match step {
-        Step::Put(key, text, deadline) => {
-            write_answer(put(alloc, space, key, text, deadline)?, out)?;
-        }
-        Step::Take(key) => write_answer(space.take(key), out)?,
-        Step::Expire(key, deadline) => {
-            let found = space.set_deadline(key, wide(deadline))?;
-            out.append(if found { b"yes" } else { b"no" })?;
-        }
-        Step::Purge(now) => {
-            for key in space.purge(now)?.as_slice() {
-                out.append(key.as_slice())?;
-                out.push(b',')?;
-            }
-        }
-        Step::Clear => space.clear(),
-    }
-    Ok(())
-}
-
-// Steps one after another, with the answer of each and the keys and entries that are then there.
-const STEPS: [(Step<'static>, &[u8]); 23] = [
-    (Step::Take(b"b"), b"none"),
-    (Step::Put(b"b", b"1", None), b"none b=1"),
-    (Step::Put(b"a", b"2", Some(7)), b"none a=2@7 b=1"),
-    (Step::Put(b"b", b"3", Some(5)), b"1 a=2@7 b=3@5"),
-    (Step::Put(b"ab", b"4", Some(5)), b"none a=2@7 ab=4@5 b=3@5"),
-    (Step::Put(b"ab", b"", Some(5)), b"4@5 a=2@7 ab=@5 b=3@5"),
-    (Step::Expire(b"a", None), b"yes a=2 ab=@5 b=3@5"),
-    (Step::Expire(b"c", Some(1)), b"no a=2 ab=@5 b=3@5"),
-    (
-        Step::Put(b"\xff", b"5", Some(9)),
-        b"none a=2 ab=@5 b=3@5 \xff=5@9",
-    ),
-    (
-        Step::Expire(b"\xff", Some(4)),
-        b"yes a=2 ab=@5 b=3@5 \xff=5@4",
-    ),
-    (Step::Purge(4), b" a=2 ab=@5 b=3@5 \xff=5@4"),
-    (Step::Purge(5), b"\xff, a=2 ab=@5 b=3@5"),
-    (Step::Purge(6), b"ab,b, a=2"),
-    (Step::Put(b"z", b"6", Some(0)), b"none a=2 z=6@0"),
-    (Step::Put(b"a", b"7", Some(8)), b"2 a=7@8 z=6@0"),
-    (Step::Put(b"c", b"8", Some(8)), b"none a=7@8 c=8@8 z=6@0"),
-    (Step::Put(b"c", b"9", None), b"8@8 a=7@8 c=9 z=6@0"),
-    (Step::Purge(u64::MAX), b"z,a, c=9"),
-    (Step::Put(b"d", b"", None), b"none c=9 d="),
-    (Step::Take(b"c"), b"9 d="),
-    (Step::Expire(b"d", Some(1)), b"yes d=@1"),
-    (Step::Clear, b""),
-    (Step::Purge(u64::MAX), b""),
-];
-
-// How many steps from the first on are as told.
-fn agreeing(
-    alloc: Global,
-    space: &mut Space,
-    steps: &[(Step<'_>, &[u8])],
-) -> Result<usize, NoMemory> {
-    for (at, (step, want)) in steps.iter().enumerate() {
-        let mut told = Bytes::new(alloc);
-        take_step(alloc, space, *step, &mut told)?;
-        write_store(space, &mut told)?;
-        if told.as_slice() != *want {
-            return Ok(at);
-        }
-    }
-    Ok(steps.len())
-}
-
-// A list, a hash, a set and a sorted set of one item, and a string with a deadline.
-fn each_kind(alloc: Global) -> Result<Space, NoMemory> {
+fn all_told(alloc: Global, out: &mut Bytes) -> Result<(), NoMemory> {
     let mut space = Space::new(alloc);
-    let mut items = ListValue::new(alloc);
-    items.push_back(Bytes::from_slice(alloc, b"i")?)?;
-    put_value(alloc, &mut space, b"list", Value::List(items))?;
-    let mut pairs = HashValue::new(alloc);
-    pairs.set(
-        Bytes::from_slice(alloc, b"f")?,
-        Bytes::from_slice(alloc, b"v")?,
-    )?;
-    put_value(alloc, &mut space, b"hash", Value::Hash(pairs))?;
-    let mut members = SetValue::new(alloc);
-    members.insert(Bytes::from_slice(alloc, b"m")?)?;
-    put_value(alloc, &mut space, b"set", Value::Set(members))?;
-    if let Some(score) = Whole::new(7) {
-        let scores = one_score(alloc, score)?;
-        put_value(alloc, &mut space, b"sorted", Value::Sorted(scores))?;
-    }
-    put(alloc, &mut space, b"string", b"s", Some(1))?;
-    Ok(space)
+    fill(alloc, &mut space, out)?;
+    change(&mut space, out)?;
+    tell_keys(&space, out)?;
+    snapshot(&mut space, out)
 }
 
-fn one_score(alloc: Global, score: Whole) -> Result<Zset, NoMemory>
-    ensures { IfOk result (λ scores. IsValue (Value.Sorted scores)) }
-{
-    let mut scores = Zset::new(alloc);
-    scores.insert(Bytes::from_slice(alloc, b"n")?, score)?;
-    Ok(scores)
-}
-
-fn put_value(alloc: Global, space: &mut Space, key: &[u8], value: Value) -> Result<(), NoMemory>
-    requires key { IsKey key.now }
-    requires value { IsValue value }
-{
+fn is_copied(value: Value) -> Result<bool, NoMemory> {
     let entry = Entry {
         value,
-        deadline: None,
+        deadline: Some(1),
     };
-    space.put(Bytes::from_slice(alloc, key)?, entry)?;
-    Ok(())
+    let copy = entry.clone()?;
+    Ok(copy == entry)
+}
+
+// Whether a value of each kind is equal to its copy.
+fn are_copied(alloc: Global) -> Result<bool, NoMemory> {
+    let text = is_copied(Value::Str(Bytes::new(alloc)))?;
+    let list = is_copied(Value::List(ListValue::new(alloc)))?;
+    let hash = is_copied(Value::Hash(HashValue::new(alloc)))?;
+    let set = is_copied(Value::Set(SetValue::new(alloc)))?;
+    let sorted = is_copied(Value::Sorted(Zset::new(alloc)))?;
+    Ok(text && list && hash && set && sorted)
 }
 
 #[test]
-fn copies_each_kind(rt: HostRuntime) -> Result<(), Fail> {
-    let mut space = each_kind(rt.alloc())?;
-    let copy = space.snapshot()?;
-    space.clear();
-    assert!(rt; space.is_empty());
-    assert_eq!(rt; copy.len(), 5);
+fn keeps_entries(rt: HostRuntime) -> Result<(), Fail> {
+    purge_removes_the_keys_past_their_deadline();
+    stores_with_equal_entries_are_equal();
     let mut told = Bytes::new(rt.alloc());
-    write_store(&copy, &mut told)?;
-    assert_eq!(rt;
-        told.as_slice(),
-        b" hash=fv list=i set=m sorted=n string=s@1".as_slice()
-    );
-    let keys = copy.keys()?;
-    assert_eq!(rt; keys.len(), 5);
-    for (at, key) in keys.as_slice().iter().enumerate() {
-        assert_eq!(rt; copy.key_at(at), Some(key.as_slice()));
-        assert!(rt; copy.get(key.as_slice()).is_some());
-    }
-    Ok(())
-}
-
-#[test]
-fn takes_steps(rt: HostRuntime) -> Result<(), Fail> {
-    let mut space = Space::new(rt.alloc());
-    let steps = agreeing(rt.alloc(), &mut space, &STEPS)?;
-    assert_eq!(rt; steps, STEPS.len());
+    all_told(rt.alloc(), &mut told)?;
+    let want = b"--1-- a=2@7 ab=4@5 b=3@5 z=5@9+-+||z,ab,b, a=2aa++2 a=2".as_slice();
+    assert_eq!(rt; told.as_slice(), want);
+    assert!(rt; are_copied(rt.alloc())?);
     Ok(())
 }

@@ -10,7 +10,7 @@ use Rattle.ks_value.specs.Fields.{Pairs, fields, HasDistinctFields, value_of, se
 equal-itself : (field : List ℕ) → bytes_eq field field ≡ true
 equal-itself = nat_list_eq_equiv.refl
 
-apart : (field other : List ℕ) → other ≢ field → bytes_eq other field ≡ false
+pub apart : (field other : List ℕ) → other ≢ field → bytes_eq other field ≡ false
 apart field other differ = elim (bytes_eq other field) as (λ b. bytes_eq other field ≡ b → b ≡ false) [ true ↦ λ e. absurd (differ ((bytes_decides other field).0 e)) | false ↦ λ e. refl ] refl
 
 -- a field that is equal to another one is told from every third as that one

@@ -1,7 +1,7 @@
 -- The entries of a map in order of insertion whose keys are seen as strings of bytes, as the pairs of a hash.
 use Rattle.std.proofs.Common.{◌≡◌, ℕ, Bool, true, false, cond, List, [], ◌∷◌, Some, map, refl, ap, ◌∙◌, ◌&&◌, if◌then◌else◌}
 use Rattle.std.specs.Cmp.Lexicographic.{pointwise}
-use Rattle.std.specs.List.{AllZip, AllByRecursion, IsDistinct}
+use Rattle.std.specs.List.{AllByRecursion, IsDistinct}
 use Rattle.std.specs.Map.{lookup, keys_of, remove_entry}
 use Rattle.std.specs.Str.{bytes_eq}
 use Rattle.std.proofs.lemmas.Map.Lookups.{map_keys}
@@ -53,11 +53,3 @@ module _ {K : Type 0} (f : K → List ℕ) where
         | true ↦ refl
         | false ↦ ap (λ ps. (f e.0, e.1) ∷ ps) (insert_entry-seen es k v)
       ]
-
--- entries whose keys and values are seen as they were
-pub clones-seen : {K X Q : Type 0} (f : K → Q) (C : K → K → Type 0) (D : X → X → Type 0) → ((x y : K) → C x y → f y ≡ f x) → ((v w : X) → D v w → w ≡ v)
-    → (es fs : List (K × X)) → AllZip (λ p q. C p.0 q.0 × D p.1 q.1) es fs → map_keys f fs ≡ map_keys f es
-clones-seen f C D same same_value [] [] h = refl
-clones-seen f C D same same_value [] (x ∷ fs) h = absurd h
-clones-seen f C D same same_value (e ∷ es) [] h = absurd h
-clones-seen f C D same same_value (e ∷ es) (x ∷ fs) h = rw (same e.0 x.0 h.0.0, same_value e.1 x.1 h.0.1, clones-seen f C D same same_value es fs h.1) refl

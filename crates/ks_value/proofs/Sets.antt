@@ -19,6 +19,7 @@ use Rattle.ks_tree.specs.Order.{bytes_cmp}
 use Rattle.ks_tree.proofs.ByteOrder.{bytes_total, bytes_exact}
 use Rattle.ks_tree.proofs.Order.{has, lacks_first, sorted-insert_key, sorted-remove_key, has-insert_key, has-remove_key, same_items}
 use Rattle.ks_tree.proofs.Places.{place_of, parted_before, place_within, insert_at_place, remove_at_place, position_found}
+use Rattle.ks_value.proofs.FieldLaws.{apart}
 use Rattle.ks_value.specs.Members.{IsAscending, is_member, insert_member, remove_member}
 
 -- two strings tie in byte order exactly where they are equal
@@ -109,9 +110,6 @@ pub below-partitioned : (members : List (List ℕ)) (member : List ℕ) → IsAs
 below-partitioned members member = parted_before bytes_total member members
 
 -- ---- membership
-apart : (member other : List ℕ) → other ≢ member → bytes_eq other member ≡ false
-apart member other differ = elim (bytes_eq other member) as (λ b. bytes_eq other member ≡ b → b ≡ false) [ true ↦ λ e. absurd (differ ((bytes_decides other member).0 e)) | false ↦ λ e. refl ] refl
-
 inserted : (members : List (List ℕ)) (member other : List ℕ) (b : Bool) → bytes_eq other member ≡ b → is_member (insert_member members member) other ≡ (b || is_member members other)
 inserted members member other b e =
     is_member-has (insert_member members member) other ∙ has-insert_key bytes_total member members other ∙ ap (λ b. b || has bytes_cmp members other) (sym (texts_ties other member) ∙ e)

@@ -1,5 +1,4 @@
-use Rattle.std.proofs.Common.{Some, None, refl}
-use Rattle.std.specs.FinMap as finite
+use Rattle.std.proofs.Common.{Some, None}
 use Rattle.ks_space.specs.Store.{deadline_at}
 use Rattle.fx_record.specs.Records.{string_entry}
 use Rattle.fx_record.proofs.Stores.{get-empty}

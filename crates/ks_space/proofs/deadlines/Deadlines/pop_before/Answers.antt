@@ -1,4 +1,4 @@
-use Rattle.std.proofs.Common.{◌≡◌, ◌∙◌, ap, sym, subst, slice_get}
+use Rattle.std.proofs.Common.{◌∙◌, ap, sym, subst, slice_get}
 use Rattle.ks_space.specs.Index.{IsIndex}
 use Rattle.ks_space.proofs.Dues.{removed_from}
 use Rattle.ks_space.proofs.Gone.{none_before}

@@ -1,4 +1,4 @@
-use Rattle.std.proofs.Common.{◌≡◌, ◌∙◌, sym, subst, ap}
+use Rattle.std.proofs.Common.{◌∙◌, sym, subst, ap}
 use Rattle.ks_space.specs.Store.{IsStore}
 use Rattle.ks_space.specs.Purge.{dues}
 use Rattle.ks_space.proofs.Dues.{dues-empty}

@@ -1,9 +1,8 @@
-use Rattle.std.proofs.Common.{◌≡◌, ◌∙◌, [], ap, sym, subst, filter, nat_lt, Some}
+use Rattle.std.proofs.Common.{◌≡◌, ◌∙◌, [], ap, sym, subst, filter, nat_lt}
 use Rattle.std.specs.FinMap as finite
 use Rattle.ks_space.specs.declared.deadlines.Due.{Due}
 use Rattle.ks_space.specs.Store.{IsStore}
-use Rattle.ks_space.specs.Purge.{dues, gone}
-use Rattle.ks_space.specs.Index.{IsIndex}
+use Rattle.ks_space.specs.Purge.{gone}
 use Rattle.ks_space.proofs.Dues.{index_of}
 use Rattle.ks_space.proofs.Gone.{gone-none, gone-first, popped}
 use Rattle.ks_space.proofs.Stores.{IsStore-remove}

@@ -1,4 +1,4 @@
-use Rattle.std.proofs.Common.{◌≡◌, ◌∙◌, ◌∷◌, [], ◌++◌, ap, sym, append_assoc}
+use Rattle.std.proofs.Common.{◌∙◌, ◌∷◌, [], ◌++◌, ap, sym, append_assoc}
 use Rattle.ks_space.specs.Purge.{gone, purged}
 use Rattle.ks_space.proofs.Gone.{purged-first, purged-none}
 use Rattle.ks_space.proofs.Always.{on_err_always}

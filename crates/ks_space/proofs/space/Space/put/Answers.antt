@@ -1,8 +1,8 @@
-use Rattle.std.proofs.Common.{◌≡◌, ◌≢◌, ◌∙◌, ap, sym, subst, not, ◌&&◌, ◌||◌, option_and_then, true≢false, Some, None}
+use Rattle.std.proofs.Common.{◌≢◌, ◌∙◌, ap, sym, subst, ◌||◌, option_and_then, true≢false}
 use Rattle.ks_space.specs.declared.entry.Entry.{Entry}
 use Rattle.ks_space.specs.Store.{IsStore, deadline_at}
 use Rattle.ks_space.specs.Purge.{dues}
-use Rattle.ks_space.specs.Index.{IsIndex, due_of, is_due, has_due}
+use Rattle.ks_space.specs.Index.{due_of, is_due, has_due}
 use Rattle.ks_space.proofs.Dues.{index_of, moved, dues-insert, dues-insert_same, dues-undone}
 use Rattle.ks_space.proofs.Stores.{IsStore-insert}
 use Rattle.ks_space.proofs.space.Space.put.Goals as goal

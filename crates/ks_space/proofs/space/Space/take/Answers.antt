@@ -1,4 +1,4 @@
-use Rattle.std.proofs.Common.{◌≡◌, ◌∙◌, ap, sym, subst, not, ◌&&◌, option_and_then}
+use Rattle.std.proofs.Common.{◌∙◌, ap, sym, subst, not, ◌&&◌, option_and_then}
 use Rattle.ks_space.specs.declared.entry.Entry.{Entry}
 use Rattle.ks_space.specs.Store.{IsStore}
 use Rattle.ks_space.specs.Purge.{dues}
