@@ -1,0 +1,4 @@
+pub mod MatchingLemmas
+pub mod SearchLemmas
+pub mod PatternLemmas
+pub mod LawLemmas
