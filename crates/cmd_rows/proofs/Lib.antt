@@ -1,0 +1,5 @@
+pub mod Followed
+pub mod NumberTexts
+pub mod Sets
+pub mod Timely
+pub mod WordPlaces

@@ -1,0 +1,13 @@
+pub use Rattle.ks_space.specs.Store
+pub use Rattle.ks_space.specs.Purge
+pub use Rattle.fx_record.specs.Records
+pub use Rattle.fx_record.specs.RecordWords
+pub use Rattle.fx_record.specs.Settled
+pub use Rattle.fx_record.specs.Timely
+pub mod Outcomes
+pub mod Numbers
+pub mod Times
+pub mod Strings
+pub mod Deeds
+pub mod Bounds
+pub mod Sets
