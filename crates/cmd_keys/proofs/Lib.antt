@@ -1,0 +1,7 @@
+pub mod Leaving
+pub mod Records
+pub mod Within
+pub mod Matching
+pub mod RowLaws
+pub mod Keeping
+pub mod KeyLists

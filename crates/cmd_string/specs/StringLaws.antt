@@ -1,0 +1,33 @@
+-- What the laws of the commands on strings speak of.
+use Rattle.std.specs.Prelude.{◌≡◌, ℕ, List, [], ◌∷◌, Option, Some, None, if◌then◌else◌, codes, bytes_eq}
+use Rattle.std.specs.Option.{option_or}
+use Rattle.std.specs.FinMap as finite
+use Rattle.resp_reply.specs.declared.reply.Reply.TheVariants.{Bulk}
+use Rattle.ks_space.specs.Store.{Store, deadline_at}
+use Rattle.fx_record.specs.Records.{applied}
+use Rattle.cmd_rows.specs.declared.times.Expiry.{Expiry}
+use Rattle.cmd_rows.specs.declared.times.Expiry.TheVariants.{InSeconds, InMillis, AtSecond, AtMillis}
+use Rattle.cmd_rows.specs.Outcomes.{Outcome, answers}
+use Rattle.cmd_string.specs.StringRows.{get_row}
+
+-- the store after a command
+abbrev pub after : Store → Outcome → Store
+after store row = applied store row.records
+
+-- GET gives the string, which stays until the deadline, or for ever
+pub record Gives (store : Store) (key text : List ℕ) (deadline : Option ℕ) : Type 0 where
+  pub get : get_row store key ≡ answers (Bulk text)
+  pub deadline_is : deadline_at store key ≡ deadline
+
+-- the option whose number is of this kind
+abbrev pub expiry_word : Expiry → List ℕ
+expiry_word InSeconds = codes "EX"
+expiry_word InMillis = codes "PX"
+expiry_word AtSecond = codes "EXAT"
+expiry_word AtMillis = codes "PXAT"
+
+-- the string of the last pair of a key
+abbrev pub last_string : List ℕ → List (List ℕ) → Option (List ℕ)
+last_string key [] = None
+last_string key (other ∷ []) = None
+last_string key (other ∷ value ∷ pairs) = option_or (last_string key pairs) (if bytes_eq other key then Some value else None)

@@ -1,0 +1,121 @@
+ghost use Rattle.std.specs.Prelude.{◌≡◌, ◌≢◌, ℕ, ℤ, ◌+ℤ◌, ◌-ℤ◌, pos, ◌<◌, ◌≤◌, true, false, List, [], ◌∷◌, ◌++◌, Option, Some, None, Ok, Err, codes, unwrap_or, length};
+ghost use Rattle.std.specs.List.{AllByRecursion};
+ghost use Rattle.std.specs.FinMap as finite;
+ghost use Rattle.rs_whole.specs.Integers.{integer_text};
+ghost use Rattle.resp_reply.specs.declared.reply.Reply.{Reply};
+ghost use Rattle.ks_space.specs.Store.{Store, IsShort, IsStore, deadline_at};
+ghost use Rattle.ks_space.specs.Purge.{IsTimely};
+ghost use Rattle.cmd_args.specs.declared.commands.CmdId.{CmdId};
+ghost use Rattle.cmd_args.specs.declared.refusal.Refusal.{Refusal};
+ghost use Rattle.cmd_rows.specs.declared.times.Expiry.{Expiry};
+ghost use Rattle.cmd_rows.specs.Bounds.{AreTimelyWithin};
+ghost use Rattle.cmd_rows.specs.Numbers.{number, is_within_64};
+ghost use Rattle.cmd_rows.specs.Outcomes.{refused};
+ghost use Rattle.cmd_rows.specs.Strings.{string_at, bulk_or_null};
+ghost use Rattle.cmd_rows.specs.Times.{deadline};
+ghost use Rattle.cmd_string.specs.Ranges.{written_over};
+ghost use Rattle.cmd_string.specs.StringLaws.{after, Gives, expiry_word, last_string};
+ghost use Rattle.cmd_string.specs.StringRows.{get_row, set_row, setnx_row, setex_row, getset_row, getdel_row, getex_row, mset_row, msetnx_row, has_any, append_row, setrange_row, add_row, subtract_row, integer_at};
+ghost use Rattle.cmd_string.specs.StringTable.{string_row};
+
+/// What a command on strings does is within the limits of a store, and gives no deadline that is past.
+pub fn string_records_are_within()
+    ensures { (store : Store) (now : ℕ) (id : CmdId) (words : List (List ℕ)) → IsStore store → IsTimely store now → AllByRecursion IsShort words
+        → AreTimelyWithin now (string_row store now id words).records }
+{}
+
+/// A command on strings leaves each key that its words do not name as it was: with its value and its deadline, or absent.
+pub fn other_keys_stay()
+    ensures { (store : Store) (now : ℕ) (id : CmdId) (words : List (List ℕ)) (other : List ℕ) → AllByRecursion (λ word. word ≢ other) words
+        → finite.get (after store (string_row store now id words)) other ≡ finite.get store other }
+{}
+
+/// After SET a GET gives the string. Without an option for it the key has no deadline, with KEEPTTL the one that it had, and
+/// with EX, PX, EXAT or PXAT the one that its number gives; where that is not past the time, the key does not exist.
+pub fn set_then_get()
+    ensures plain { (store : Store) (now : ℕ) (key value : List ℕ) → Gives (after store (set_row store now key value [])) key value None }
+    ensures keepttl { (store : Store) (now : ℕ) (key value : List ℕ)
+        → Gives (after store (set_row store now key value (codes "KEEPTTL" ∷ []))) key value (deadline_at store key) }
+    ensures until { (store : Store) (now : ℕ) (key value : List ℕ) (kind : Expiry) (word : List ℕ) (n : ℤ) (at : ℕ) → number word ≡ Ok n
+        → deadline CmdId.Set kind now n ≡ Ok at → now < at → Gives (after store (set_row store now key value (expiry_word kind ∷ word ∷ []))) key value (Some at) }
+    ensures past { (store : Store) (now : ℕ) (key value : List ℕ) (kind : Expiry) (word : List ℕ) (n : ℤ) (at : ℕ) → number word ≡ Ok n
+        → deadline CmdId.Set kind now n ≡ Ok at → at ≤ now → finite.get (after store (set_row store now key value (expiry_word kind ∷ word ∷ []))) key ≡ None }
+{}
+
+/// SET with NX leaves a key that exists as it was, and SET with XX one that does not. With GET the reply is the old string.
+pub fn set_asks_first()
+    ensures nx { (store : Store) (now : ℕ) (key value : List ℕ) → finite.contains_key store key ≡ true
+        → after store (set_row store now key value (codes "NX" ∷ [])) ≡ store }
+    ensures xx { (store : Store) (now : ℕ) (key value : List ℕ) → finite.contains_key store key ≡ false
+        → after store (set_row store now key value (codes "XX" ∷ [])) ≡ store }
+    ensures get { (store : Store) (now : ℕ) (key value : List ℕ) (old : Option (List ℕ)) → string_at store key ≡ Ok old
+        → (set_row store now key value (codes "GET" ∷ [])).reply ≡ bulk_or_null old }
+{}
+
+/// After SETNX of a key that did not exist, and after GETSET, a GET gives the string, and the key has no deadline. SETNX
+/// leaves a key that exists as it was. After SETEX and PSETEX a GET gives the string until the deadline.
+pub fn other_sets_then_get()
+    ensures setnx { (store : Store) (key value : List ℕ) → finite.contains_key store key ≡ false → Gives (after store (setnx_row store key value)) key value None }
+    ensures setnx_there { (store : Store) (key value : List ℕ) → finite.contains_key store key ≡ true → after store (setnx_row store key value) ≡ store }
+    ensures getset { (store : Store) (key value : List ℕ) (old : Option (List ℕ)) → string_at store key ≡ Ok old
+        → Gives (after store (getset_row store key value)) key value None }
+    ensures setex { (store : Store) (id : CmdId) (kind : Expiry) (now : ℕ) (key time value : List ℕ) (n : ℤ) (at : ℕ) → number time ≡ Ok n
+        → deadline id kind now n ≡ Ok at → now < at → Gives (after store (setex_row id kind now key time value)) key value (Some at) }
+{}
+
+/// After GETDEL the key does not exist. GETEX gives a string the deadline that it is asked for, takes it away with PERSIST, and
+/// leaves it without an option; the string stays.
+pub fn getdel_and_getex()
+    ensures getdel { (store : Store) (key : List ℕ) (text : Option (List ℕ)) → string_at store key ≡ Ok text
+        → finite.get (after store (getdel_row store key)) key ≡ None }
+    ensures plain { (store : Store) (now : ℕ) (key text : List ℕ) → string_at store key ≡ Ok (Some text)
+        → after store (getex_row store now key []) ≡ store }
+    ensures persist { (store : Store) (now : ℕ) (key text : List ℕ) → string_at store key ≡ Ok (Some text)
+        → Gives (after store (getex_row store now key (codes "PERSIST" ∷ []))) key text None }
+    ensures until { (store : Store) (now : ℕ) (key text : List ℕ) (kind : Expiry) (word : List ℕ) (n : ℤ) (at : ℕ) → string_at store key ≡ Ok (Some text)
+        → number word ≡ Ok n → deadline CmdId.GetEx kind now n ≡ Ok at → now < at
+        → Gives (after store (getex_row store now key (expiry_word kind ∷ word ∷ []))) key text (Some at) }
+{}
+
+/// After APPEND a GET gives the old string and the value behind it, and after SETRANGE the old string with the value in it.
+/// The key keeps the deadline that it had.
+pub fn strings_grow()
+    ensures append { (store : Store) (key value : List ℕ) (old : Option (List ℕ)) → string_at store key ≡ Ok old → IsShort (unwrap_or old [] ++ value)
+        → Gives (after store (append_row store key value)) key (unwrap_or old [] ++ value) (deadline_at store key) }
+    ensures setrange { (store : Store) (key word value : List ℕ) (offset : ℕ) (old : Option (List ℕ)) → string_at store key ≡ Ok old → number word ≡ Ok (pos offset)
+        → value ≢ [] → IsShort (written_over (unwrap_or old []) offset value)
+        → Gives (after store (setrange_row store key word value)) key (written_over (unwrap_or old []) offset value) (deadline_at store key) }
+    ensures too_long { (store : Store) (key value : List ℕ) (old : Option (List ℕ)) → string_at store key ≡ Ok old → 16777216 < length (unwrap_or old [] ++ value)
+        → append_row store key value ≡ refused Refusal.TooLong }
+{}
+
+/// INCR, INCRBY, DECR and DECRBY give the sum, and the difference, in 64 bits: the reply says it, and after it a GET gives its
+/// digits. The key keeps the deadline that it had. Past 64 bits they are refused, and so is a string that is no integer.
+pub fn integers_are_counted()
+    ensures add { (store : Store) (key : List ℕ) (m n : ℤ) → integer_at store key ≡ Ok m → is_within_64 (m +ℤ n) ≡ true
+        → Gives (after store (add_row store key n)) key (integer_text (m +ℤ n)) (deadline_at store key) }
+    ensures add_reply { (store : Store) (key : List ℕ) (m n : ℤ) → integer_at store key ≡ Ok m → is_within_64 (m +ℤ n) ≡ true
+        → (add_row store key n).reply ≡ Reply.Int (m +ℤ n) }
+    ensures subtract { (store : Store) (key : List ℕ) (m n : ℤ) → integer_at store key ≡ Ok m → is_within_64 (m -ℤ n) ≡ true
+        → Gives (after store (subtract_row store key n)) key (integer_text (m -ℤ n)) (deadline_at store key) }
+    ensures subtract_reply { (store : Store) (key : List ℕ) (m n : ℤ) → integer_at store key ≡ Ok m → is_within_64 (m -ℤ n) ≡ true
+        → (subtract_row store key n).reply ≡ Reply.Int (m -ℤ n) }
+    ensures overflow { (store : Store) (key : List ℕ) (m n : ℤ) → integer_at store key ≡ Ok m → is_within_64 (m +ℤ n) ≡ false
+        → add_row store key n ≡ refused Refusal.Overflow }
+    ensures underflow { (store : Store) (key : List ℕ) (m n : ℤ) → integer_at store key ≡ Ok m → is_within_64 (m -ℤ n) ≡ false
+        → subtract_row store key n ≡ refused Refusal.Overflow }
+    ensures absent { (store : Store) (key : List ℕ) → finite.get store key ≡ None → integer_at store key ≡ Ok (pos 0) }
+    ensures no_integer { (store : Store) (key text : List ℕ) (n : ℤ) → string_at store key ≡ Ok (Some text) → number text ≡ Err Refusal.NotInteger
+        → add_row store key n ≡ refused Refusal.NotInteger }
+{}
+
+/// After MSET a GET of each key gives the string of its last pair, and the key has no deadline. So it is after MSETNX where
+/// none of the keys existed; where one does, nothing is set.
+pub fn mset_then_get()
+    ensures mset { (store : Store) (name key value : List ℕ) (pairs : List (List ℕ)) → last_string key pairs ≡ Some value
+        → Gives (after store (mset_row (name ∷ pairs))) key value None }
+    ensures msetnx { (store : Store) (name key value : List ℕ) (pairs : List (List ℕ)) → has_any store pairs ≡ false → last_string key pairs ≡ Some value
+        → Gives (after store (msetnx_row store (name ∷ pairs))) key value None }
+    ensures msetnx_there { (store : Store) (name : List ℕ) (pairs : List (List ℕ)) → has_any store pairs ≡ true
+        → after store (msetnx_row store (name ∷ pairs)) ≡ store }
+{}
