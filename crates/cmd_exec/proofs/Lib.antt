@@ -1,0 +1,5 @@
+mod Worlds
+mod Refusing
+mod Within
+mod Rows
+mod Working

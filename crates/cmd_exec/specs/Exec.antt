@@ -1,0 +1,87 @@
+-- One command: what it answers and does (Redis manual, command by command), and the order in which it is refused.
+use Rattle.std.specs.Prelude.{ℕ, nat_le, Bool, true, false, not, ◌&&◌, ◌||◌, if◌then◌else◌, List, [], ◌∷◌, Option, Some, None, length, sum_by}
+use Rattle.std.specs.List.{list_all}
+use Rattle.cmd_args.specs.declared.commands.CmdId.{CmdId}
+use Rattle.cmd_args.specs.declared.commands.CmdId.TheVariants.{Get, Set, SetNx, SetEx, PSetEx, GetSet, GetDel, GetEx, MGet, MSet, MSetNx, Append, StrLen, GetRange, SetRange, Incr, Decr, IncrBy, DecrBy}
+use Rattle.cmd_args.specs.declared.commands.Row.{Row}
+use Rattle.cmd_args.specs.declared.refusal.Refusal.{Refusal}
+use Rattle.cmd_args.specs.declared.refusal.Refusal.TheVariants.{NoWord, UnknownCommand, WordCount, NotInScript, ReadOnlyScript, TooLarge}
+use Rattle.cmd_args.specs.declared.turn.Mode.{Mode}
+use Rattle.cmd_args.specs.declared.turn.Mode.TheVariants.{Client, Script, ScriptRo}
+use Rattle.cmd_args.specs.Table.{row_named, fits}
+use Rattle.cmd_args.specs.Refusals.{shown}
+use Rattle.fx_record.specs.RecordWords.{is_short}
+use Rattle.fx_record.specs.Settled.{settled}
+use Rattle.cmd_rows.specs.Outcomes.{Outcome, refused}
+use Rattle.cmd_string.specs.StringTable.{string_row}
+use Rattle.cmd_keys.specs.Rows.{key_row}
+use Rattle.cmd_exec.specs.Worlds.{World}
+
+-- clients alone may call it, or it may not stand in a script
+abbrev pub is_barred : Mode → Row → Bool
+is_barred Client row = row.client_only
+is_barred Script row = row.client_only || not row.in_script
+is_barred ScriptRo row = row.client_only || not row.in_script
+
+abbrev pub may_only_read : Mode → Bool
+may_only_read Client = false
+may_only_read Script = false
+may_only_read ScriptRo = true
+
+-- at most 65,536 words, each of at most 16,777,216 bytes, and 67,108,864 bytes in all
+abbrev pub is_within : List (List ℕ) → Bool
+is_within words = nat_le (length words) 65536 && (list_all is_short words && nat_le (sum_by length words) 67108864)
+
+-- why a command that is known is refused before it is carried out: for the number of its words, for where it was called,
+-- for what it may do there, for its size
+abbrev pub reason : Mode → Row → List (List ℕ) → Option Refusal
+reason mode row words =
+    if not (fits row (length words)) then Some (WordCount row.id)
+    else (if is_barred mode row then Some NotInScript
+    else (if may_only_read mode && row.writes then Some ReadOnlyScript
+    else (if not (is_within words) then Some TooLarge else None)))
+
+-- the commands on strings
+abbrev pub is_of_strings : CmdId → Bool
+is_of_strings Get = true
+is_of_strings Set = true
+is_of_strings SetNx = true
+is_of_strings SetEx = true
+is_of_strings PSetEx = true
+is_of_strings GetSet = true
+is_of_strings GetDel = true
+is_of_strings GetEx = true
+is_of_strings MGet = true
+is_of_strings MSet = true
+is_of_strings MSetNx = true
+is_of_strings Append = true
+is_of_strings StrLen = true
+is_of_strings GetRange = true
+is_of_strings SetRange = true
+is_of_strings Incr = true
+is_of_strings Decr = true
+is_of_strings IncrBy = true
+is_of_strings DecrBy = true
+is_of_strings _ = false
+
+-- what the command itself gives
+unfoldable pub row_outcome : World → CmdId → List (List ℕ) → Outcome
+row_outcome world id words =
+    if is_of_strings id then string_row world.store world.time id words else key_row world.store world.time world.draws id words
+
+abbrev pub unless_refused : Option Refusal → Outcome → Outcome
+unless_refused (Some why) outcome = refused why
+unless_refused None outcome = outcome
+
+abbrev pub outcome_of : World → Mode → Option Row → List ℕ → List (List ℕ) → Outcome
+outcome_of world mode (Some row) name words = unless_refused (reason mode row words) (row_outcome world row.id words)
+outcome_of world mode None name words = refused (UnknownCommand (shown name))
+
+-- what the words give, before it is known whether the store changes
+abbrev pub given : World → Mode → List (List ℕ) → Outcome
+given world mode [] = refused NoWord
+given world mode (name ∷ words) = outcome_of world mode (row_named name) name (name ∷ words)
+
+-- one command: its reply, its records, which are none exactly where the store stays the same, and its draws
+unfoldable pub exec : World → Mode → List (List ℕ) → Outcome
+exec world mode words = record (given world mode words) { records = settled world.store (given world mode words).records }
