@@ -1,5 +1,7 @@
 -- Bytes in one piece or in two.
-use Rattle.std.proofs.Common.{◌≡◌, ℕ, max, arith, Bool, true, false, List, [], ◌∷◌, ◌++◌, Option, Some, None, map, fold, cond, append-nil, append_assoc, refl, sym, ap, subst, ◌∙◌}
+use Rattle.std.proofs.Common.{◌≡◌, ℕ, ◌<◌, ◌≤◌, Bool, true, false, List, [], ◌∷◌, ◌++◌, Option, Some, None, map, fold, cond, append-nil, append_assoc, refl, sym, ap, subst, ◌∙◌}
+use Rattle.std.specs.Prelude.{◌↔◌, Contains}
+use Rattle.std.specs.Option.{IsSomeAnd}
 use Rattle.std.specs.Cmp.{nat_cmp_total, tied_itself}
 use Rattle.std.specs.Ordering.{is_eq}
 use Rattle.std.specs.FinMap as finite
@@ -10,12 +12,17 @@ use Rattle.resp_read.specs.Frames.{Form, Given, EmptyArray, NegativeArray, comma
 use Rattle.resp_read.specs.Reading.{Reading, Unfinished, Broken, reading, going_on, behind_forms}
 use Rattle.rs_outside.specs.declared.turn.Turn.{Turn}
 use Rattle.rs_outside.specs.declared.turn.What.TheVariants.{Piece}
-use Rattle.cl_core.specs.declared.request.Request.{Request}
-use Rattle.cl_core.specs.Requests.{request_of, is_quit}
-use Rattle.cl_core.specs.Machine.{Clients, Run, up_to_quit, quits, asked_in, with_turn}
-use Rattle.cl_core.specs.History.{Event, Asked, Ended, ending, read_events, keeping, clients_read, piece_events, clients_piece}
+use Rattle.cmd_rows.specs.Outcomes.{ok}
+use Rattle.ks_space.specs.Store.{Store, deadline_at}
+use Rattle.ks_space.specs.Purge.{gone, IsTimely}
+use Rattle.cl_core.specs.Machine.{Clients, Run, is_quit, before_quit, quits, commands_of, begun_at, with_clients, with_turn}
+use Rattle.cl_core.specs.History.{Event, Asked, Told, Ended, ending, read_events, keeping, clients_read, piece_events, clients_piece}
 use Rattle.cl_core.proofs.MapLaws.{insert-insert, remove-insert}
-use Rattle.cl_core.proofs.EventLaws.{with_event, moved, fold_moved, with_turn_is}
+use Rattle.cl_core.proofs.BeginLaws.{begun_again}
+use Rattle.cl_core.proofs.EventLaws.{with_event, fold_with_clients, with_turn_is}
+
+abbrev Words : Type 0
+Words = List (List ℕ)
 
 commands_in-append : (forms more : List Form) → commands_in (forms ++ more) ≡ commands_in forms ++ commands_in more
 commands_in-append [] more = refl
@@ -23,24 +30,24 @@ commands_in-append (Given words ∷ forms) more = ap (λ rest. words ∷ rest) (
 commands_in-append (EmptyArray ∷ forms) more = commands_in-append forms more
 commands_in-append (NegativeArray n ∷ forms) more = commands_in-append forms more
 
-asked_behind : (forms : List Form) (left : List ℕ) (read : Reading) → asked_in (behind_forms forms read) ≡ asked_in (Unfinished forms left) ++ asked_in read
-asked_behind forms left (Unfinished more rest) = ap (map request_of) (commands_in-append forms more) ∙ map-append request_of (commands_in forms) (commands_in more)
-asked_behind forms left (Broken more place kind) = ap (map request_of) (commands_in-append forms more) ∙ map-append request_of (commands_in forms) (commands_in more)
+commands_behind : (forms : List Form) (left : List ℕ) (read : Reading) → commands_of (behind_forms forms read) ≡ commands_of (Unfinished forms left) ++ commands_of read
+commands_behind forms left (Unfinished more rest) = commands_in-append forms more
+commands_behind forms left (Broken more place kind) = commands_in-append forms more
 
-quits_first : (asked more : List Request) → quits asked ≡ true → (quits (asked ++ more) ≡ true) × (up_to_quit (asked ++ more) ≡ up_to_quit asked)
+quits_first : (commands more : List Words) → quits commands ≡ true → (quits (commands ++ more) ≡ true) × (before_quit (commands ++ more) ≡ before_quit commands)
 quits_first [] more is = absurd (cc)
-quits_first (request ∷ asked) more is =
-    elim (is_quit request) as (λ b. cond b true (quits asked) ≡ true → (cond b true (quits (asked ++ more)) ≡ true) × (cond b (request ∷ []) (request ∷ up_to_quit (asked ++ more)) ≡ cond b (request ∷ []) (request ∷ up_to_quit asked))) [
+quits_first (words ∷ commands) more is =
+    elim (is_quit words) as (λ b. cond b true (quits commands) ≡ true → (cond b true (quits (commands ++ more)) ≡ true) × (cond b [] (words ∷ before_quit (commands ++ more)) ≡ cond b [] (words ∷ before_quit commands))) [
       | true ↦ λ h. (refl, refl)
-      | false ↦ λ h. let rest = quits_first asked more h in (rest.0, ap (λ r. request ∷ r) rest.1)
+      | false ↦ λ h. let rest = quits_first commands more h in (rest.0, ap (λ r. words ∷ r) rest.1)
     ] is
 
-quits_later : (asked more : List Request) → quits asked ≡ false → (quits (asked ++ more) ≡ quits more) × (up_to_quit (asked ++ more) ≡ asked ++ up_to_quit more)
+quits_later : (commands more : List Words) → quits commands ≡ false → (quits (commands ++ more) ≡ quits more) × (before_quit (commands ++ more) ≡ commands ++ before_quit more)
 quits_later [] more is = (refl, refl)
-quits_later (request ∷ asked) more is =
-    elim (is_quit request) as (λ b. cond b true (quits asked) ≡ false → (cond b true (quits (asked ++ more)) ≡ quits more) × (cond b (request ∷ []) (request ∷ up_to_quit (asked ++ more)) ≡ request ∷ (asked ++ up_to_quit more))) [
+quits_later (words ∷ commands) more is =
+    elim (is_quit words) as (λ b. cond b true (quits commands) ≡ false → (cond b true (quits (commands ++ more)) ≡ quits more) × (cond b [] (words ∷ before_quit (commands ++ more)) ≡ words ∷ (commands ++ before_quit more))) [
       | true ↦ λ h. absurd (cc)
-      | false ↦ λ h. let rest = quits_later asked more h in (rest.0, ap (λ r. request ∷ r) rest.1)
+      | false ↦ λ h. let rest = quits_later commands more h in (rest.0, ap (λ r. words ∷ r) rest.1)
     ] is
 
 ending_behind : (client : ℕ) (forms : List Form) (read : Reading) → ending client (behind_forms forms read) ≡ ending client read
@@ -71,73 +78,74 @@ module _ (client : ℕ) (clients : Clients) (bytes : List ℕ) where
   }
 
   module _ (forms : List Form) (left : List ℕ) where
-    abbrev first_asked : List Request
-    first_asked = asked_in (Unfinished forms left)
+    abbrev first_commands : List Words
+    first_commands = commands_of (Unfinished forms left)
 
-    module _ (read : Reading) (asked : List Request) (is : asked ≡ first_asked ++ asked_in read) where
-      events_quit : quits first_asked ≡ true → cond (quits asked) (map (Asked client) (up_to_quit asked) ++ Ended client ∷ []) (map (Asked client) asked ++ ending client (behind_forms forms read))
-          ≡ map (Asked client) (up_to_quit first_asked) ++ Ended client ∷ []
+    module _ (read : Reading) (commands : List Words) (is : commands ≡ first_commands ++ commands_of read) where
+      events_quit : quits first_commands ≡ true → cond (quits commands) (map (Asked client) (before_quit commands) ++ Told client ok ∷ Ended client ∷ []) (map (Asked client) commands ++ ending client (behind_forms forms read))
+          ≡ map (Asked client) (before_quit first_commands) ++ Told client ok ∷ Ended client ∷ []
       events_quit quit =
-          let both = quits_first first_asked (asked_in read) quit in
-          ap (λ b. cond b (map (Asked client) (up_to_quit asked) ++ Ended client ∷ []) (map (Asked client) asked ++ ending client (behind_forms forms read))) (ap quits is ∙ both.0)
-          ∙ ap (λ taken. map (Asked client) taken ++ Ended client ∷ []) (ap up_to_quit is ∙ both.1)
+          let both = quits_first first_commands (commands_of read) quit in
+          ap (λ b. cond b (map (Asked client) (before_quit commands) ++ Told client ok ∷ Ended client ∷ []) (map (Asked client) commands ++ ending client (behind_forms forms read))) (ap quits is ∙ both.0)
+          ∙ ap (λ taken. map (Asked client) taken ++ Told client ok ∷ Ended client ∷ []) (ap before_quit is ∙ both.1)
 
-      clients_quit : quits first_asked ≡ true → cond (quits asked) (finite.remove clients client) (keeping client (behind_forms forms read) clients) ≡ finite.remove clients client
-      clients_quit quit = ap (λ b. cond b (finite.remove clients client) (keeping client (behind_forms forms read) clients)) (ap quits is ∙ (quits_first first_asked (asked_in read) quit).0)
+      clients_quit : quits first_commands ≡ true → cond (quits commands) (finite.remove clients client) (keeping client (behind_forms forms read) clients) ≡ finite.remove clients client
+      clients_quit quit = ap (λ b. cond b (finite.remove clients client) (keeping client (behind_forms forms read) clients)) (ap quits is ∙ (quits_first first_commands (commands_of read) quit).0)
 
-      later : (more : List Request) (last : List Event) → map (Asked client) (first_asked ++ more) ++ last ≡ (map (Asked client) first_asked ++ []) ++ (map (Asked client) more ++ last)
+      later : (more : List Words) (last : List Event) → map (Asked client) (first_commands ++ more) ++ last ≡ (map (Asked client) first_commands ++ []) ++ (map (Asked client) more ++ last)
       later more last =
-          ap (λ events. events ++ last) (map-append (Asked client) first_asked more) ∙ append_assoc (map (Asked client) first_asked) (map (Asked client) more) last
-          ∙ ap (λ events. events ++ (map (Asked client) more ++ last)) (sym (append-nil (map (Asked client) first_asked)))
+          ap (λ events. events ++ last) (map-append (Asked client) first_commands more) ∙ append_assoc (map (Asked client) first_commands) (map (Asked client) more) last
+          ∙ ap (λ events. events ++ (map (Asked client) more ++ last)) (sym (append-nil (map (Asked client) first_commands)))
 
       both_ways : (b : Bool) (x y z w front : List Event) → x ≡ front ++ z → y ≡ front ++ w → cond b x y ≡ front ++ cond b z w
       both_ways true x y z w front p q = p
       both_ways false x y z w front p q = q
 
-      events_later : quits first_asked ≡ false → cond (quits asked) (map (Asked client) (up_to_quit asked) ++ Ended client ∷ []) (map (Asked client) asked ++ ending client (behind_forms forms read))
-          ≡ (map (Asked client) first_asked ++ []) ++ read_events client read
+      events_later : quits first_commands ≡ false → cond (quits commands) (map (Asked client) (before_quit commands) ++ Told client ok ∷ Ended client ∷ []) (map (Asked client) commands ++ ending client (behind_forms forms read))
+          ≡ (map (Asked client) first_commands ++ []) ++ read_events client read
       events_later none =
-          let both = quits_later first_asked (asked_in read) none in
-          ap (λ b. cond b (map (Asked client) (up_to_quit asked) ++ Ended client ∷ []) (map (Asked client) asked ++ ending client (behind_forms forms read))) (ap quits is ∙ both.0)
-          ∙ both_ways (quits (asked_in read)) _ _ _ _ (map (Asked client) first_asked ++ [])
-          (ap (λ taken. map (Asked client) taken ++ Ended client ∷ []) (ap up_to_quit is ∙ both.1) ∙ later (up_to_quit (asked_in read)) (Ended client ∷ []))
-          (ap (λ taken. map (Asked client) taken ++ ending client (behind_forms forms read)) is ∙ ap (λ last. map (Asked client) (first_asked ++ asked_in read) ++ last) (ending_behind client forms read)
-          ∙ later (asked_in read) (ending client read))
+          let both = quits_later first_commands (commands_of read) none in
+          ap (λ b. cond b (map (Asked client) (before_quit commands) ++ Told client ok ∷ Ended client ∷ []) (map (Asked client) commands ++ ending client (behind_forms forms read))) (ap quits is ∙ both.0)
+          ∙ both_ways (quits (commands_of read)) _ _ _ _ (map (Asked client) first_commands ++ [])
+          (ap (λ taken. map (Asked client) taken ++ Told client ok ∷ Ended client ∷ []) (ap before_quit is ∙ both.1) ∙ later (before_quit (commands_of read)) (Told client ok ∷ Ended client ∷ []))
+          (ap (λ taken. map (Asked client) taken ++ ending client (behind_forms forms read)) is ∙ ap (λ last. map (Asked client) (first_commands ++ commands_of read) ++ last) (ending_behind client forms read)
+          ∙ later (commands_of read) (ending client read))
 
-      clients_later : quits first_asked ≡ false → cond (quits asked) (finite.remove clients client) (keeping client (behind_forms forms read) clients) ≡ clients_read client read (finite.insert clients client left)
+      clients_later : quits first_commands ≡ false → cond (quits commands) (finite.remove clients client) (keeping client (behind_forms forms read) clients) ≡ clients_read client read (finite.insert clients client left)
       clients_later none =
-          ap (λ b. cond b (finite.remove clients client) (keeping client (behind_forms forms read) clients)) (ap quits is ∙ (quits_later first_asked (asked_in read) none).0)
-          ∙ (λ i. cond (quits (asked_in read)) (sym (remove-insert nat_cmp_total nat_cmp-IsAntisymmetric clients client left) i) (keeping_behind client forms left clients read i))
+          ap (λ b. cond b (finite.remove clients client) (keeping client (behind_forms forms read) clients)) (ap quits is ∙ (quits_later first_commands (commands_of read) none).0)
+          ∙ (λ i. cond (quits (commands_of read)) (sym (remove-insert nat_cmp_total nat_cmp-IsAntisymmetric clients client left) i) (keeping_behind client forms left clients read i))
 
-    does_later : (b : Bool) → quits first_asked ≡ b → Does client clients (cond b (map (Asked client) (up_to_quit first_asked) ++ Ended client ∷ []) (map (Asked client) first_asked ++ []))
+    does_later : (b : Bool) → quits first_commands ≡ b → Does client clients (cond b (map (Asked client) (before_quit first_commands) ++ Told client ok ∷ Ended client ∷ []) (map (Asked client) first_commands ++ []))
         (cond b (finite.remove clients client) (finite.insert clients client left)) bytes
         (read_events client (behind_forms forms (reading (left ++ bytes)))) (clients_read client (behind_forms forms (reading (left ++ bytes))) clients)
     does_later true quit =
         let read = reading (left ++ bytes) in
-        let no_more = does_no_more (map (Asked client) (up_to_quit first_asked) ++ Ended client ∷ []) in
+        let no_more = does_no_more (map (Asked client) (before_quit first_commands) ++ Told client ok ∷ Ended client ∷ []) in
         record {
-          happens = events_quit read (asked_in (behind_forms forms read)) (asked_behind forms left read) quit ∙ no_more.happens;
-          leaves = clients_quit read (asked_in (behind_forms forms read)) (asked_behind forms left read) quit ∙ no_more.leaves;
+          happens = events_quit read (commands_of (behind_forms forms read)) (commands_behind forms left read) quit ∙ no_more.happens;
+          leaves = clients_quit read (commands_of (behind_forms forms read)) (commands_behind forms left read) quit ∙ no_more.leaves;
         }
     does_later false none =
         let read = reading (left ++ bytes) in
         record {
-          happens = events_later read (asked_in (behind_forms forms read)) (asked_behind forms left read) none
-              ∙ ap (λ found. (map (Asked client) first_asked ++ []) ++ piece_events client bytes found) (sym (here_then clients client left));
-          leaves = clients_later read (asked_in (behind_forms forms read)) (asked_behind forms left read) none
+          happens = events_later read (commands_of (behind_forms forms read)) (commands_behind forms left read) none
+              ∙ ap (λ found. (map (Asked client) first_commands ++ []) ++ piece_events client bytes found) (sym (here_then clients client left));
+          leaves = clients_later read (commands_of (behind_forms forms read)) (commands_behind forms left read) none
               ∙ ap (λ found. clients_piece client bytes found (finite.insert clients client left)) (sym (here_then clients client left));
         }
 
   does_behind : (read : Reading) → Does client clients (read_events client read) (clients_read client read clients) bytes (read_events client (going_on read bytes)) (clients_read client (going_on read bytes) clients)
-  does_behind (Unfinished forms left) = does_later forms left (quits (asked_in (Unfinished forms left))) refl
+  does_behind (Unfinished forms left) = does_later forms left (quits (commands_of (Unfinished forms left))) refl
   does_behind (Broken forms place kind) =
-      elim (quits (asked_in (Broken forms place kind))) as (λ b. Does client clients (read_events client (Broken forms place kind)) (cond b (finite.remove clients client) (finite.remove clients client)) bytes
+      elim (quits (commands_of (Broken forms place kind))) as (λ b. Does client clients (read_events client (Broken forms place kind)) (cond b (finite.remove clients client) (finite.remove clients client)) bytes
       (read_events client (Broken forms place kind)) (cond b (finite.remove clients client) (finite.remove clients client))) [
         | true ↦ does_no_more (read_events client (Broken forms place kind))
         | false ↦ does_no_more (read_events client (Broken forms place kind))
       ]
 
-module _ (goes_on : (text more : List ℕ) → reading (text ++ more) ≡ going_on (reading text) more) where
+module _ (goes_on : (text more : List ℕ) → reading (text ++ more) ≡ going_on (reading text) more)
+    (listed : (store : Store) (time : ℕ) (key : List ℕ) → Contains (gone store time) key ↔ IsSomeAnd (deadline_at store key) (λ at. at < time)) where
   does_cut : (client : ℕ) (clients : Clients) (a b : List ℕ) (found : Option (List ℕ)) → finite.get clients client ≡ found
       → Does client clients (piece_events client a found) (clients_piece client a found clients) b (piece_events client (a ++ b) found) (clients_piece client (a ++ b) found clients)
   does_cut client clients a b None is = record {
@@ -148,26 +156,26 @@ module _ (goes_on : (text more : List ℕ) → reading (text ++ more) ≡ going_
       subst (λ read. Does client clients (read_events client (reading (left ++ a))) (clients_read client (reading (left ++ a)) clients) b (read_events client read) (clients_read client read clients))
       (sym (ap reading (sym (append_assoc left a b)) ∙ goes_on (left ++ a) b)) (does_behind client clients b (reading (left ++ a)))
 
-  max_twice : (time clock : ℕ) → max (max time clock) clock ≡ max time clock
-  max_twice time clock = omega arith
-
-  pub cut_is : (run : Run) (clock word word_a word_b client : ℕ) (a b : List ℕ)
+  pub cut_is : (run : Run) (clock word client : ℕ) (a b : List ℕ) → (first : Run) → first ≡ with_turn run (record { clock = clock; word = word; client = client; what = Piece a })
+      → IsTimely first.state.store first.state.time → clock ≤ first.state.time
       → with_turn run (record { clock = clock; word = word; client = client; what = Piece (a ++ b) })
-      ≡ with_turn (with_turn run (record { clock = clock; word = word_a; client = client; what = Piece a })) (record { clock = clock; word = word_b; client = client; what = Piece b })
-  cut_is run clock word word_a word_b client a b =
+      ≡ with_turn first (record { clock = clock; word = first.state.draws; client = client; what = Piece b })
+  cut_is run clock word client a b first is timely early =
       let clients = run.state.clients in
       let found = finite.get clients client in
       let does = does_cut client clients a b found refl in
       let after = clients_piece client a found clients in
       let events = piece_events client a found in
       let last = piece_events client b (finite.get after client) in
-      let turn_a : Turn = record { clock = clock; word = word_a; client = client; what = Piece a } in
-      let turn_b : Turn = record { clock = clock; word = word_b; client = client; what = Piece b } in
-      let mid = moved after (max run.state.time clock) (fold with_event run events) in
+      let turn_b : Turn = record { clock = clock; word = first.state.draws; client = client; what = Piece b } in
+      let mid = fold with_event (begun_at clock word run) events in
       with_turn_is run (record { clock = clock; word = word; client = client; what = Piece (a ++ b) })
-      ∙ (λ i. moved (does.leaves i) (sym (max_twice run.state.time clock) i) (fold with_event run (does.happens i)))
-      ∙ ap (moved (clients_piece client b (finite.get after client) after) (max (max run.state.time clock) clock))
-      (fold-append with_event run events last)
-      ∙ ap (moved (clients_piece client b (finite.get after client) after) (max (max run.state.time clock) clock)) (sym (fold_moved after (max run.state.time clock) last (fold with_event run events)))
-      ∙ sym (with_turn_is mid turn_b)
-      ∙ ap (λ r. with_turn r turn_b) (sym (with_turn_is run turn_a))
+      ∙ (λ i. with_clients (does.leaves i) (fold with_event (begun_at clock word run) (does.happens i)))
+      ∙ ap (with_clients (clients_piece client b (finite.get after client) after))
+      (fold-append with_event (begun_at clock word run) events last)
+      ∙ ap (with_clients (clients_piece client b (finite.get after client) after)) (sym (fold_with_clients after last mid))
+      ∙ ap (λ (r : Run). with_clients (clients_piece client b (finite.get r.state.clients client) r.state.clients) (fold with_event r (piece_events client b (finite.get r.state.clients client))))
+      (sym (is ∙ with_turn_is run (record { clock = clock; word = word; client = client; what = Piece a })))
+      ∙ ap (λ r. with_clients (clients_piece client b (finite.get first.state.clients client) first.state.clients) (fold with_event r (piece_events client b (finite.get first.state.clients client))))
+      (sym (begun_again listed first clock timely early))
+      ∙ sym (with_turn_is first turn_b)

@@ -1,5 +1,5 @@
--- A run goes on by what happens to clients.
-use Rattle.std.proofs.Common.{◌≡◌, ℕ, max, nat_lt, true, false, List, [], ◌∷◌, ◌++◌, Option, Some, None, map, fold, cond, refl, sym, ap, ◌∙◌}
+-- A run goes on by what happens.
+use Rattle.std.proofs.Common.{◌≡◌, ℕ, nat_lt, true, false, List, [], ◌∷◌, ◌++◌, Option, Some, None, map, fold, cond, refl, sym, ap, ◌∙◌}
 use Rattle.std.specs.FinMap as finite
 use Rattle.std.proofs.lemmas.List.Sums.{fold-append}
 use Rattle.resp_read.specs.Reading.{Reading, Unfinished, Broken, reading}
@@ -7,60 +7,52 @@ use Rattle.rs_outside.specs.declared.turn.Turn.{Turn}
 use Rattle.rs_outside.specs.declared.turn.What.{What}
 use Rattle.rs_outside.specs.declared.turn.What.TheVariants.{Opened, Piece, Closed, Idle}
 use Rattle.rs_outside.specs.declared.turn.OutRow.TheVariants.{Shut}
-use Rattle.cl_core.specs.declared.request.Request.{Request}
-use Rattle.cl_core.specs.Machine.{Clients, Run, sending, reply_row, with_clients, holding, with_request, up_to_quit, quits, shutting, protocol_error, settling, asked_in, taking, piece_of, too_many_clients, opening, turn_by, at_clock, turn_on, with_turn}
-use Rattle.cl_core.specs.History.{Event, Asked, Told, Ended, ending, read_events, keeping, clients_read, piece_events, clients_piece, events_by, clients_by}
+use Rattle.cmd_rows.specs.Outcomes.{ok}
+use Rattle.cl_core.specs.Machine.{Clients, Run, sending, reply_row, with_clients, holding, with_command, before_quit, quits, quitting, protocol_error, settling, commands_of, taking, piece_of, too_many_clients, opening, turn_by, begun_at, turn_on, with_turn}
+use Rattle.cl_core.specs.History.{Event, Began, Asked, Told, Ended, ending, read_events, keeping, clients_read, piece_events, clients_piece, events_by, clients_by}
 use Rattle.cl_core.proofs.RunLaws.{clients_stay, turn_adds}
 
 abbrev pub with_event : Run → Event → Run
-with_event run (Asked client asked) = with_request client run asked
+with_event run (Began clock word) = begun_at clock word run
+with_event run (Asked client words) = with_command client run words
 with_event run (Told client answer) = sending (reply_row client answer) run
 with_event run (Ended client) = sending (Shut client) run
 
--- the same run with these clients and this time
-abbrev pub moved : Clients → ℕ → Run → Run
-moved clients time run = record run { state = record run.state { clients = clients; time = time } }
+pub fold_with_clients : (clients : Clients) (events : List Event) (run : Run) → fold with_event (with_clients clients run) events ≡ with_clients clients (fold with_event run events)
+fold_with_clients clients [] run = refl
+fold_with_clients clients (Began clock word ∷ events) run = fold_with_clients clients events (begun_at clock word run)
+fold_with_clients clients (Asked client words ∷ events) run = fold_with_clients clients events (with_command client run words)
+fold_with_clients clients (Told client answer ∷ events) run = fold_with_clients clients events (sending (reply_row client answer) run)
+fold_with_clients clients (Ended client ∷ events) run = fold_with_clients clients events (sending (Shut client) run)
 
-pub fold_moved : (clients : Clients) (time : ℕ) (events : List Event) (run : Run) → fold with_event (moved clients time run) events ≡ moved clients time (fold with_event run events)
-fold_moved clients time [] run = refl
-fold_moved clients time (Asked client asked ∷ events) run = fold_moved clients time events (with_request client run asked)
-fold_moved clients time (Told client answer ∷ events) run = fold_moved clients time events (sending (reply_row client answer) run)
-fold_moved clients time (Ended client ∷ events) run = fold_moved clients time events (sending (Shut client) run)
-
-time_stays : (events : List Event) (run : Run) → (fold with_event run events).state.time ≡ run.state.time
-time_stays [] run = refl
-time_stays (Asked client asked ∷ events) run = time_stays events (with_request client run asked)
-time_stays (Told client answer ∷ events) run = time_stays events (sending (reply_row client answer) run)
-time_stays (Ended client ∷ events) run = time_stays events (sending (Shut client) run)
-
-fold_asked : (client : ℕ) (asked : List Request) (run : Run) → fold with_event run (map (Asked client) asked) ≡ fold (with_request client) run asked
+fold_asked : (client : ℕ) (commands : List (List (List ℕ))) (run : Run) → fold with_event run (map (Asked client) commands) ≡ fold (with_command client) run commands
 fold_asked client [] run = refl
-fold_asked client (request ∷ asked) run = fold_asked client asked (with_request client run request)
+fold_asked client (words ∷ commands) run = fold_asked client commands (with_command client run words)
 
-then_more : (client : ℕ) (asked : List Request) (more : List Event) (run : Run) → fold with_event run (map (Asked client) asked ++ more) ≡ fold with_event (fold (with_request client) run asked) more
-then_more client asked more run = fold-append with_event run (map (Asked client) asked) more ∙ ap (λ r. fold with_event r more) (fold_asked client asked run)
+then_more : (client : ℕ) (commands : List (List (List ℕ))) (more : List Event) (run : Run) → fold with_event run (map (Asked client) commands ++ more) ≡ fold with_event (fold (with_command client) run commands) more
+then_more client commands more run = fold-append with_event run (map (Asked client) commands) more ∙ ap (λ r. fold with_event r more) (fold_asked client commands run)
 
 module _ (client : ℕ) (run : Run) where
-  shut_is : (asked : List Request) → shutting client (fold (with_request client) run asked) ≡ with_clients (finite.remove run.state.clients client) (fold with_event run (map (Asked client) asked ++ Ended client ∷ []))
-  shut_is asked =
-      ap (λ clients. with_clients (finite.remove clients client) (sending (Shut client) (fold (with_request client) run asked))) (clients_stay client asked run)
-      ∙ ap (with_clients (finite.remove run.state.clients client)) (sym (then_more client asked (Ended client ∷ []) run))
+  quit_is : (commands : List (List (List ℕ))) → quitting client (fold (with_command client) run commands) ≡ with_clients (finite.remove run.state.clients client) (fold with_event run (map (Asked client) commands ++ Told client ok ∷ Ended client ∷ []))
+  quit_is commands =
+      ap (λ clients. with_clients (finite.remove clients client) (sending (Shut client) (sending (reply_row client ok) (fold (with_command client) run commands)))) (clients_stay client commands run)
+      ∙ ap (with_clients (finite.remove run.state.clients client)) (sym (then_more client commands (Told client ok ∷ Ended client ∷ []) run))
 
-  settled_is : (read : Reading) (asked : List Request) → settling client read (fold (with_request client) run asked) ≡ with_clients (keeping client read run.state.clients) (fold with_event run (map (Asked client) asked ++ ending client read))
-  settled_is (Unfinished forms left) asked =
-      ap (λ clients. with_clients (finite.insert clients client left) (fold (with_request client) run asked)) (clients_stay client asked run)
-      ∙ ap (with_clients (finite.insert run.state.clients client left)) (sym (then_more client asked [] run))
-  settled_is (Broken forms place kind) asked =
-      ap (λ clients. with_clients (finite.remove clients client) (sending (Shut client) (sending (reply_row client (protocol_error kind)) (fold (with_request client) run asked)))) (clients_stay client asked run)
-      ∙ ap (with_clients (finite.remove run.state.clients client)) (sym (then_more client asked (ending client (Broken forms place kind)) run))
+  settled_is : (read : Reading) (commands : List (List (List ℕ))) → settling client read (fold (with_command client) run commands) ≡ with_clients (keeping client read run.state.clients) (fold with_event run (map (Asked client) commands ++ ending client read))
+  settled_is (Unfinished forms left) commands =
+      ap (λ clients. with_clients (finite.insert clients client left) (fold (with_command client) run commands)) (clients_stay client commands run)
+      ∙ ap (with_clients (finite.insert run.state.clients client left)) (sym (then_more client commands [] run))
+  settled_is (Broken forms place kind) commands =
+      ap (λ clients. with_clients (finite.remove clients client) (sending (Shut client) (sending (reply_row client (protocol_error kind)) (fold (with_command client) run commands)))) (clients_stay client commands run)
+      ∙ ap (with_clients (finite.remove run.state.clients client)) (sym (then_more client commands (ending client (Broken forms place kind)) run))
 
   taken_is : (read : Reading) → taking client read run ≡ with_clients (clients_read client read run.state.clients) (fold with_event run (read_events client read))
   taken_is read =
-      elim (quits (asked_in read)) as (λ b. cond b (shutting client (fold (with_request client) run (up_to_quit (asked_in read)))) (settling client read (fold (with_request client) run (asked_in read)))
+      elim (quits (commands_of read)) as (λ b. cond b (quitting client (fold (with_command client) run (before_quit (commands_of read)))) (settling client read (fold (with_command client) run (commands_of read)))
       ≡ with_clients (cond b (finite.remove run.state.clients client) (keeping client read run.state.clients))
-      (fold with_event run (cond b (map (Asked client) (up_to_quit (asked_in read)) ++ Ended client ∷ []) (map (Asked client) (asked_in read) ++ ending client read)))) [
-        | true ↦ shut_is (up_to_quit (asked_in read))
-        | false ↦ settled_is read (asked_in read)
+      (fold with_event run (cond b (map (Asked client) (before_quit (commands_of read)) ++ Told client ok ∷ Ended client ∷ []) (map (Asked client) (commands_of read) ++ ending client read)))) [
+        | true ↦ quit_is (before_quit (commands_of read))
+        | false ↦ settled_is read (commands_of read)
       ]
 
   piece_is : (bytes : List ℕ) (left : Option (List ℕ)) → piece_of client bytes left run ≡ with_clients (clients_piece client bytes left run.state.clients) (fold with_event run (piece_events client bytes left))
@@ -87,15 +79,12 @@ module _ (client : ℕ) (run : Run) where
 abbrev pub clients_then : Clients → Turn → Clients
 clients_then clients turn = clients_by turn.what turn.client clients
 
-abbrev pub time_then : ℕ → Turn → ℕ
-time_then time turn = max time turn.clock
+abbrev pub events_then : Clients → Turn → List Event
+events_then clients turn = Began turn.clock turn.word ∷ events_by turn.what turn.client clients
 
--- a turn: what happens in it, with the clients and the time that it leaves
-pub turn_is : (run : Run) (turn : Turn) → turn_on run turn ≡ moved (clients_then run.state.clients turn) (time_then run.state.time turn) (fold with_event run (events_by turn.what turn.client run.state.clients))
-turn_is run turn =
-    let events = events_by turn.what turn.client run.state.clients in
-    turn_by_is turn.client (at_clock turn.clock run) turn.what
-    ∙ ap (with_clients (clients_then run.state.clients turn)) (fold_moved run.state.clients (max run.state.time turn.clock) events run)
+-- a turn: what happens in it, with the clients that it leaves
+pub turn_is : (run : Run) (turn : Turn) → turn_on run turn ≡ with_clients (clients_then run.state.clients turn) (fold with_event run (events_then run.state.clients turn))
+turn_is run turn = turn_by_is turn.client (begun_at turn.clock turn.word run) turn.what
 
-pub with_turn_is : (run : Run) (turn : Turn) → with_turn run turn ≡ moved (clients_then run.state.clients turn) (time_then run.state.time turn) (fold with_event run (events_by turn.what turn.client run.state.clients))
+pub with_turn_is : (run : Run) (turn : Turn) → with_turn run turn ≡ with_clients (clients_then run.state.clients turn) (fold with_event run (events_then run.state.clients turn))
 with_turn_is run turn = sym (turn_adds run turn) ∙ turn_is run turn

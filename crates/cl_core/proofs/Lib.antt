@@ -1,9 +1,9 @@
+pub mod BeginLaws
 pub mod CutLaws
 pub mod EventLaws
 pub mod FeedLaws
 pub mod HistoryLaws
 pub mod MapLaws
 pub mod RunLaws
-pub mod WithinLaws
 pub mod ValidLaws
 pub mod ReplayLaws

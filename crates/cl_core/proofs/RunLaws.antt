@@ -5,101 +5,98 @@ use Rattle.std.specs.Cmp.{nat_cmp_total}
 use Rattle.std.specs.FinMap as finite
 use Rattle.std.specs.FinMap.{nat_cmp-IsAntisymmetric}
 use Rattle.resp_read.specs.Reading.{Reading, Unfinished, Broken, reading}
+use Rattle.resp_reply.specs.declared.reply.Reply.{Reply}
 use Rattle.rs_outside.specs.declared.turn.Turn.{Turn}
 use Rattle.rs_outside.specs.declared.turn.What.{What}
 use Rattle.rs_outside.specs.declared.turn.What.TheVariants.{Opened, Piece, Closed, Idle}
 use Rattle.rs_outside.specs.declared.turn.OutRow.{OutRow}
 use Rattle.rs_outside.specs.declared.turn.OutRow.TheVariants.{Shut}
 use Rattle.fx_log.specs.declared.group.Group.{Group}
-use Rattle.cl_core.specs.declared.request.Request.{Request}
+use Rattle.cmd_rows.specs.Outcomes.{ok}
 use Rattle.cl_core.proofs.MapLaws.{insert-remove, remove_absent}
 use Rattle.resp_read.specs.declared.command.Command.{Command}
 use Rattle.resp_read.specs.declared.stops.BadFrame.{BadFrame}
 use Rattle.cl_core.specs.declared.client.Fed.TheVariants as fed
 use Rattle.cl_core.specs.Reads.{IsFed}
-use Rattle.cl_core.specs.Requests.{request_of, is_quit}
-use Rattle.cl_core.specs.Machine.{Clients, State, Run, silent, sending, reply_row, with_clients, holding, with_request, up_to_quit, quits, shutting, protocol_error, settling, asked_in, taking, piece_of, too_many_clients, opening, turn_by, at_clock, turn_on, step, run_then}
-use Rattle.cl_core.specs.Taken.{put_back, told_of}
+use Rattle.cl_core.specs.Machine.{Clients, State, Run, silent, sending, reply_row, with_clients, holding, with_command, is_quit, before_quit, quits, shutting, quitting, protocol_error, settling, commands_of, taking, piece_of, too_many_clients, opening, turn_by, begun_at, turn_on, step, run_then}
+use Rattle.cl_core.specs.Taken.{dismissed, put_back, told_of}
 
--- requests leave the clients as they are
-pub fold_clients : (client : ℕ) (clients : Clients) (asked : List Request) (run : Run) → fold (with_request client) (with_clients clients run) asked ≡ with_clients clients (fold (with_request client) run asked)
+abbrev Words : Type 0
+Words = List (List ℕ)
+
+-- commands leave the clients as they are
+pub fold_clients : (client : ℕ) (clients : Clients) (commands : List Words) (run : Run) → fold (with_command client) (with_clients clients run) commands ≡ with_clients clients (fold (with_command client) run commands)
 fold_clients client clients [] run = refl
-fold_clients client clients (request ∷ asked) run = fold_clients client clients asked (with_request client run request)
+fold_clients client clients (words ∷ commands) run = fold_clients client clients commands (with_command client run words)
 
-pub clients_stay : (client : ℕ) (asked : List Request) (run : Run) → (fold (with_request client) run asked).state.clients ≡ run.state.clients
+pub clients_stay : (client : ℕ) (commands : List Words) (run : Run) → (fold (with_command client) run commands).state.clients ≡ run.state.clients
 clients_stay client [] run = refl
-clients_stay client (request ∷ asked) run = clients_stay client asked (with_request client run request)
+clients_stay client (words ∷ commands) run = clients_stay client commands (with_command client run words)
 
-pub no_quit : (asked : List Request) → quits asked ≡ false → up_to_quit asked ≡ asked
+pub no_quit : (commands : List Words) → quits commands ≡ false → before_quit commands ≡ commands
 no_quit [] none = refl
-no_quit (request ∷ asked) none =
-    elim (is_quit request) as (λ b. cond b true (quits asked) ≡ false → cond b (request ∷ []) (request ∷ up_to_quit asked) ≡ request ∷ asked) [
+no_quit (words ∷ commands) none =
+    elim (is_quit words) as (λ b. cond b true (quits commands) ≡ false → cond b [] (words ∷ before_quit commands) ≡ words ∷ commands) [
       | true ↦ λ h. absurd (cc)
-      | false ↦ λ h. ap (λ rest. request ∷ rest) (no_quit asked h)
+      | false ↦ λ h. ap (λ rest. words ∷ rest) (no_quit commands h)
     ] none
 
-module _ (client : ℕ) (asked : List Request) (run : Run) where
+module _ (client : ℕ) (commands : List Words) (run : Run) where
   abbrev without : Clients
   without = finite.remove run.state.clients client
 
-  out_shut : (taken : List Request) → sending (Shut client) (fold (with_request client) (with_clients without run) taken) ≡ shutting client (fold (with_request client) run taken)
-  out_shut taken =
-      let all = fold (with_request client) run taken in
-      ap (sending (Shut client)) (fold_clients client without taken run ∙ ap (λ clients. with_clients (finite.remove clients client) all) (sym (clients_stay client taken run)))
+  out_dismissed : (answer : Reply) (taken : List Words) → dismissed client answer (fold (with_command client) (with_clients without run) taken) ≡ shutting client (sending (reply_row client answer) (fold (with_command client) run taken))
+  out_dismissed answer taken =
+      let all = fold (with_command client) run taken in
+      ap (dismissed client answer) (fold_clients client without taken run ∙ ap (λ clients. with_clients (finite.remove clients client) all) (sym (clients_stay client taken run)))
 
-  out_held : (rest : List ℕ) → quits asked ≡ false → holding client rest (fold (with_request client) (with_clients without run) (up_to_quit asked)) ≡ holding client rest (fold (with_request client) run asked)
+  out_held : (rest : List ℕ) → quits commands ≡ false → holding client rest (fold (with_command client) (with_clients without run) (before_quit commands)) ≡ holding client rest (fold (with_command client) run commands)
   out_held rest none =
-      let all = fold (with_request client) run asked in
-      ap (λ taken. holding client rest (fold (with_request client) (with_clients without run) taken)) (no_quit asked none)
-      ∙ ap (holding client rest) (fold_clients client without asked run)
+      let all = fold (with_command client) run commands in
+      ap (λ taken. holding client rest (fold (with_command client) (with_clients without run) taken)) (no_quit commands none)
+      ∙ ap (holding client rest) (fold_clients client without commands run)
       ∙ ap (λ clients. with_clients clients all) (insert-remove nat_cmp_total nat_cmp-IsAntisymmetric run.state.clients client rest
-      ∙ ap (λ clients. finite.insert clients client rest) (sym (clients_stay client asked run)))
+      ∙ ap (λ clients. finite.insert clients client rest) (sym (clients_stay client commands run)))
 
-  out_told : (fault : OutRow) → quits asked ≡ false → sending (Shut client) (sending fault (fold (with_request client) (with_clients without run) (up_to_quit asked))) ≡ shutting client (sending fault (fold (with_request client) run asked))
-  out_told fault none =
-      let all = fold (with_request client) run asked in
-      ap (λ taken. sending (Shut client) (sending fault (fold (with_request client) (with_clients without run) taken))) (no_quit asked none)
-      ∙ ap (λ r. sending (Shut client) (sending fault r)) (fold_clients client without asked run ∙ ap (λ clients. with_clients (finite.remove clients client) all) (sym (clients_stay client asked run)))
+  out_told : (answer : Reply) → quits commands ≡ false → dismissed client answer (fold (with_command client) (with_clients without run) (before_quit commands)) ≡ shutting client (sending (reply_row client answer) (fold (with_command client) run commands))
+  out_told answer none =
+      ap (λ taken. dismissed client answer (fold (with_command client) (with_clients without run) taken)) (no_quit commands none) ∙ out_dismissed answer commands
 
-  put_back_by : (rest : List ℕ) (b : Bool) → quits asked ≡ b → cond b (sending (Shut client) (fold (with_request client) (with_clients without run) (up_to_quit asked))) (holding client rest (fold (with_request client) (with_clients without run) (up_to_quit asked)))
-      ≡ cond b (shutting client (fold (with_request client) run (up_to_quit asked))) (holding client rest (fold (with_request client) run asked))
-  put_back_by rest true e = out_shut (up_to_quit asked)
+  put_back_by : (rest : List ℕ) (b : Bool) → quits commands ≡ b → cond b (dismissed client ok (fold (with_command client) (with_clients without run) (before_quit commands))) (holding client rest (fold (with_command client) (with_clients without run) (before_quit commands)))
+      ≡ cond b (quitting client (fold (with_command client) run (before_quit commands))) (holding client rest (fold (with_command client) run commands))
+  put_back_by rest true e = out_dismissed ok (before_quit commands)
   put_back_by rest false e = out_held rest e
 
-  told_by : (fault : OutRow) (b : Bool) → quits asked ≡ b → cond b (sending (Shut client) (fold (with_request client) (with_clients without run) (up_to_quit asked))) (sending (Shut client) (sending fault (fold (with_request client) (with_clients without run) (up_to_quit asked))))
-      ≡ cond b (shutting client (fold (with_request client) run (up_to_quit asked))) (shutting client (sending fault (fold (with_request client) run asked)))
-  told_by fault true e = out_shut (up_to_quit asked)
-  told_by fault false e = out_told fault e
-
-asked_of_commands : (commands : List Command) → map (λ c. request_of c.words) commands ≡ map request_of (map (λ c. c.words) commands)
-asked_of_commands [] = refl
-asked_of_commands (command ∷ commands) = ap (λ rest. request_of command.words ∷ rest) (asked_of_commands commands)
+  told_by : (answer : Reply) (b : Bool) → quits commands ≡ b → cond b (dismissed client ok (fold (with_command client) (with_clients without run) (before_quit commands))) (dismissed client answer (fold (with_command client) (with_clients without run) (before_quit commands)))
+      ≡ cond b (quitting client (fold (with_command client) run (before_quit commands))) (shutting client (sending (reply_row client answer) (fold (with_command client) run commands)))
+  told_by answer true e = out_dismissed ok (before_quit commands)
+  told_by answer false e = out_told answer e
 
 fed_open_by : (client : ℕ) (reader : List ℕ) (commands : List Command) (run : Run) (read : Reading) → IsFed (fed.Open reader commands) read
-    → put_back client reader (map (λ c. request_of c.words) commands) (with_clients (finite.remove run.state.clients client) run) ≡ taking client read run
+    → put_back client reader (map (λ c. c.words) commands) (with_clients (finite.remove run.state.clients client) run) ≡ taking client read run
 fed_open_by client reader commands run (Unfinished forms rest) is =
-    ap (λ asked. put_back client reader asked (with_clients (finite.remove run.state.clients client) run)) (asked_of_commands commands ∙ ap (map request_of) is.0)
-    ∙ ap (λ left. put_back client left (asked_in (Unfinished forms rest)) (with_clients (finite.remove run.state.clients client) run)) is.1
-    ∙ put_back_by client (asked_in (Unfinished forms rest)) run rest _ refl
+    ap (λ all. put_back client reader all (with_clients (finite.remove run.state.clients client) run)) is.0
+    ∙ ap (λ left. put_back client left (commands_of (Unfinished forms rest)) (with_clients (finite.remove run.state.clients client) run)) is.1
+    ∙ put_back_by client (commands_of (Unfinished forms rest)) run rest _ refl
 fed_open_by client reader commands run (Broken forms place kind) is = absurd is
 
 fed_broken_by : (client : ℕ) (due : BadFrame) (commands : List Command) (run : Run) (read : Reading) → IsFed (fed.Broken commands due) read
-    → told_of client due (map (λ c. request_of c.words) commands) (with_clients (finite.remove run.state.clients client) run) ≡ taking client read run
+    → told_of client due (map (λ c. c.words) commands) (with_clients (finite.remove run.state.clients client) run) ≡ taking client read run
 fed_broken_by client due commands run (Unfinished forms rest) is = absurd is
 fed_broken_by client due commands run (Broken forms place kind) is =
-    ap (λ asked. told_of client due asked (with_clients (finite.remove run.state.clients client) run)) (asked_of_commands commands ∙ ap (map request_of) is.0)
-    ∙ ap (λ k. told_of client k (asked_in (Broken forms place kind)) (with_clients (finite.remove run.state.clients client) run)) is.1
-    ∙ told_by client (asked_in (Broken forms place kind)) run (reply_row client (protocol_error kind)) _ refl
+    ap (λ all. told_of client due all (with_clients (finite.remove run.state.clients client) run)) is.0
+    ∙ ap (λ k. told_of client k (commands_of (Broken forms place kind)) (with_clients (finite.remove run.state.clients client) run)) is.1
+    ∙ told_by client (commands_of (Broken forms place kind)) run (protocol_error kind) _ refl
 
 -- what a piece does, by what it made of the client
 pub piece_of_open : (client : ℕ) (bytes left reader : List ℕ) (commands : List Command) (run : Run) → Some left ≡ finite.get run.state.clients client
     → IsFed (fed.Open reader commands) (reading (left ++ bytes))
-    → put_back client reader (map (λ c. request_of c.words) commands) (with_clients (finite.remove run.state.clients client) run) ≡ piece_of client bytes (finite.get run.state.clients client) run
+    → put_back client reader (map (λ c. c.words) commands) (with_clients (finite.remove run.state.clients client) run) ≡ piece_of client bytes (finite.get run.state.clients client) run
 piece_of_open client bytes left reader commands run is fed_is = fed_open_by client reader commands run (reading (left ++ bytes)) fed_is ∙ ap (λ found. piece_of client bytes found run) is
 
 pub piece_of_bad : (client : ℕ) (bytes left : List ℕ) (due : BadFrame) (commands : List Command) (run : Run) → Some left ≡ finite.get run.state.clients client
     → IsFed (fed.Broken commands due) (reading (left ++ bytes))
-    → told_of client due (map (λ c. request_of c.words) commands) (with_clients (finite.remove run.state.clients client) run) ≡ piece_of client bytes (finite.get run.state.clients client) run
+    → told_of client due (map (λ c. c.words) commands) (with_clients (finite.remove run.state.clients client) run) ≡ piece_of client bytes (finite.get run.state.clients client) run
 piece_of_bad client bytes left due commands run is fed_is = fed_broken_by client due commands run (reading (left ++ bytes)) fed_is ∙ ap (λ found. piece_of client bytes found run) is
 
 pub piece_of_none : (client : ℕ) (bytes : List ℕ) (run : Run) → None ≡ finite.get run.state.clients client
@@ -118,19 +115,19 @@ module _ (client : ℕ) (inside now : State) (clients : Clients) (rows : List Ou
 
   pub open_at : (bytes left reader : List ℕ) (commands : List Command) (after : Run) → clients ≡ finite.remove inside.clients client → Some left ≡ finite.get inside.clients client
       → IsFed (fed.Open reader commands) (reading (left ++ bytes))
-      → after ≡ put_back client reader (map (λ c. request_of c.words) commands) (record { state = record inside { clients = clients }; rows = rows; groups = groups })
+      → after ≡ put_back client reader (map (λ c. c.words) commands) (record { state = record inside { clients = clients }; rows = rows; groups = groups })
       → after ≡ piece_of client bytes (finite.get now.clients client) (record { state = now; rows = rows; groups = groups })
   open_at bytes left reader commands after out found fed_is after_is =
-      after_is ∙ ap (λ m. put_back client reader (map (λ c. request_of c.words) commands) (record { state = record inside { clients = m }; rows = rows; groups = groups })) out
+      after_is ∙ ap (λ m. put_back client reader (map (λ c. c.words) commands) (record { state = record inside { clients = m }; rows = rows; groups = groups })) out
       ∙ piece_of_open client bytes left reader commands (record { state = inside; rows = rows; groups = groups }) found fed_is
       ∙ ap (λ s. piece_of client bytes (finite.get s.clients client) (record { state = s; rows = rows; groups = groups })) is
 
   pub bad_at : (bytes left : List ℕ) (due : BadFrame) (commands : List Command) (after : Run) → clients ≡ finite.remove inside.clients client → Some left ≡ finite.get inside.clients client
       → IsFed (fed.Broken commands due) (reading (left ++ bytes))
-      → after ≡ told_of client due (map (λ c. request_of c.words) commands) (record { state = record inside { clients = clients }; rows = rows; groups = groups })
+      → after ≡ told_of client due (map (λ c. c.words) commands) (record { state = record inside { clients = clients }; rows = rows; groups = groups })
       → after ≡ piece_of client bytes (finite.get now.clients client) (record { state = now; rows = rows; groups = groups })
   bad_at bytes left due commands after out found fed_is after_is =
-      after_is ∙ ap (λ m. told_of client due (map (λ c. request_of c.words) commands) (record { state = record inside { clients = m }; rows = rows; groups = groups })) out
+      after_is ∙ ap (λ m. told_of client due (map (λ c. c.words) commands) (record { state = record inside { clients = m }; rows = rows; groups = groups })) out
       ∙ piece_of_bad client bytes left due commands (record { state = inside; rows = rows; groups = groups }) found fed_is
       ∙ ap (λ s. piece_of client bytes (finite.get s.clients client) (record { state = s; rows = rows; groups = groups })) is
 
@@ -168,15 +165,18 @@ adds_row row run = no_groups run.state (run.rows ++ row ∷ []) run.groups
 adds_nothing : Adds (λ run. run)
 adds_nothing run = silently run.state run
 
-adds_request : (client : ℕ) (asked : Request) → Adds (λ run. with_request client run asked)
-adds_request client asked run = refl
+adds_command : (client : ℕ) (words : Words) → Adds (λ run. with_command client run words)
+adds_command client words run = refl
 
-adds_requests : (client : ℕ) (asked : List Request) → Adds (λ run. fold (with_request client) run asked)
-adds_requests client [] run = adds_nothing run
-adds_requests client (request ∷ asked) run = adds_both (λ r. with_request client r request) (λ r. fold (with_request client) r asked) (adds_request client request) (adds_requests client asked) run
+adds_commands : (client : ℕ) (commands : List Words) → Adds (λ run. fold (with_command client) run commands)
+adds_commands client [] run = adds_nothing run
+adds_commands client (words ∷ commands) run = adds_both (λ r. with_command client r words) (λ r. fold (with_command client) r commands) (adds_command client words) (adds_commands client commands) run
 
 adds_shutting : (client : ℕ) → Adds (shutting client)
 adds_shutting client run = adds_row (Shut client) (with_clients (finite.remove run.state.clients client) run)
+
+adds_quitting : (client : ℕ) → Adds (quitting client)
+adds_quitting client = adds_both (sending (reply_row client ok)) (shutting client) (adds_row _) (adds_shutting client)
 
 adds_settling : (client : ℕ) (read : Reading) → Adds (settling client read)
 adds_settling client (Unfinished forms rest) run = silently (with_clients (finite.insert run.state.clients client rest) run).state run
@@ -184,10 +184,10 @@ adds_settling client (Broken forms place kind) run = adds_both (sending (reply_r
 
 adds_taking : (client : ℕ) (read : Reading) → Adds (taking client read)
 adds_taking client read run =
-    elim (quits (asked_in read)) as (λ b. cond b (shutting client (fold (with_request client) run (up_to_quit (asked_in read)))) (settling client read (fold (with_request client) run (asked_in read)))
-    ≡ run_then run (cond b (shutting client (fold (with_request client) (silent run.state) (up_to_quit (asked_in read)))) (settling client read (fold (with_request client) (silent run.state) (asked_in read))))) [
-      | true ↦ adds_both (λ r. fold (with_request client) r (up_to_quit (asked_in read))) (shutting client) (adds_requests client (up_to_quit (asked_in read))) (adds_shutting client) run
-      | false ↦ adds_both (λ r. fold (with_request client) r (asked_in read)) (settling client read) (adds_requests client (asked_in read)) (adds_settling client read) run
+    elim (quits (commands_of read)) as (λ b. cond b (quitting client (fold (with_command client) run (before_quit (commands_of read)))) (settling client read (fold (with_command client) run (commands_of read)))
+    ≡ run_then run (cond b (quitting client (fold (with_command client) (silent run.state) (before_quit (commands_of read)))) (settling client read (fold (with_command client) (silent run.state) (commands_of read))))) [
+      | true ↦ adds_both (λ r. fold (with_command client) r (before_quit (commands_of read))) (quitting client) (adds_commands client (before_quit (commands_of read))) (adds_quitting client) run
+      | false ↦ adds_both (λ r. fold (with_command client) r (commands_of read)) (settling client read) (adds_commands client (commands_of read)) (adds_settling client read) run
     ]
 
 adds_piece : (client : ℕ) (bytes : List ℕ) (left : Option (List ℕ)) → Adds (piece_of client bytes left)
@@ -217,5 +217,12 @@ adds_turn (Piece bytes) client run = adds_piece client bytes (finite.get run.sta
 adds_turn Closed client run = silently (with_clients (finite.remove run.state.clients client) run).state run
 adds_turn Idle client run = adds_nothing run
 
+adds_begun : (clock word : ℕ) → Adds (begun_at clock word)
+adds_begun clock word run = λ i. record { state = (begun_at clock word run).state; rows = sym (append-nil run.rows) i; groups = (begun_at clock word run).groups }
+
 pub turn_adds : (run : Run) (turn : Turn) → turn_on run turn ≡ run_then run (step run.state turn)
-turn_adds run turn = adds_both (at_clock turn.clock) (turn_by turn.what turn.client) (λ r. silently (at_clock turn.clock r).state r) (adds_turn turn.what turn.client) run
+turn_adds run turn = adds_both (begun_at turn.clock turn.word) (turn_by turn.what turn.client) (adds_begun turn.clock turn.word) (adds_turn turn.what turn.client) run
+
+-- what is done behind the beginning of a turn is done in the turn
+pub turned : (turn : Turn) (what : What) (before run after : Run) → run ≡ begun_at turn.clock turn.word before → turn.what ≡ what → after ≡ turn_by what turn.client run → after ≡ turn_on before turn
+turned turn what before run after begins is does = does ∙ (λ i. turn_by (sym is i) turn.client (begins i))

@@ -1,34 +1,30 @@
--- The machine in a user's words: what happens to clients, by their bytes alone, and what is answered and logged, by what was
--- asked before.
-use Rattle.std.specs.Prelude.{◌≡◌, ℕ, pos, nat_lt, Bool, if◌then◌else◌, not, List, [], ◌∷◌, ◌++◌, Option, Some, None, is_some, unwrap_or, length, map, codes}
-use Rattle.std.specs.List.{filter, list_any, flat_map}
-use Rattle.std.specs.Str.{bytes_eq}
+-- The machine in a user's words: what happens, by the bytes of clients alone, what each event makes of the world, and what is
+-- answered and logged.
+use Rattle.std.specs.Prelude.{◌≡◌, ℕ, max, nat_lt, if◌then◌else◌, List, [], ◌∷◌, ◌++◌, Option, Some, None, map, fold}
 use Rattle.std.specs.FinMap as finite
 use Rattle.resp_read.specs.Reading.{Reading, Unfinished, Broken, reading}
 use Rattle.resp_reply.specs.declared.reply.Reply.{Reply}
-use Rattle.resp_reply.specs.declared.reply.Reply.TheVariants as reply
 use Rattle.rs_outside.specs.declared.turn.Turn.{Turn}
 use Rattle.rs_outside.specs.declared.turn.What.{What}
 use Rattle.rs_outside.specs.declared.turn.What.TheVariants.{Opened, Piece, Closed, Idle}
 use Rattle.rs_outside.specs.declared.turn.OutRow.{OutRow}
 use Rattle.rs_outside.specs.declared.turn.OutRow.TheVariants.{Shut}
+use Rattle.ks_space.specs.Purge.{gone}
 use Rattle.fx_log.specs.declared.group.Group.{Group}
-use Rattle.cl_core.specs.declared.request.Request.{Request}
-use Rattle.cl_core.specs.declared.request.Request.TheVariants as request
-use Rattle.cl_core.specs.Requests.{refusal_text}
-use Rattle.ks_space.specs.declared.entry.Entry.{Entry}
-use Rattle.fx_record.specs.declared.record.Record.{Record}
-use Rattle.fx_record.specs.declared.record.Record.TheVariants.{Set, Del}
-use Rattle.cl_core.specs.Answers.{bulk_or_null, plain_string, is_value}
-use Rattle.cl_core.specs.Machine.{Clients, Run, reply_row, group_of, up_to_quit, quits, protocol_error, asked_in, too_many_clients}
+use Rattle.cmd_args.specs.declared.turn.Mode.TheVariants.{Client}
+use Rattle.cmd_rows.specs.Outcomes.{ok}
+use Rattle.cmd_exec.specs.Worlds.{World, empty_world, begun, moved_by}
+use Rattle.cmd_exec.specs.Exec.{exec}
+use Rattle.cl_core.specs.Machine.{Clients, Run, world_of, reply_row, group_of, removal, before_quit, quits, protocol_error, commands_of, too_many_clients}
 
--- what happens to a client: it asks something, it is told why it is shut, it is shut
+-- what happens: a turn begins at a clock and with a word, or a client asks for a command, is told something else, or is shut
 pub data Event : Type 0 where
-  Asked : ℕ → Request → Event
+  Began : ℕ → ℕ → Event
+  Asked : ℕ → List (List ℕ) → Event
   Told : ℕ → Reply → Event
   Ended : ℕ → Event
 
--- behind the requests of a reading
+-- behind the commands of a reading
 abbrev pub ending : ℕ → Reading → List Event
 ending client (Unfinished forms left) = []
 ending client (Broken forms place kind) = Told client (protocol_error kind) ∷ Ended client ∷ []
@@ -36,15 +32,15 @@ ending client (Broken forms place kind) = Told client (protocol_error kind) ∷ 
 -- what happens where a client's bytes, those that were left and those that came, read so: nothing comes behind a QUIT
 abbrev pub read_events : ℕ → Reading → List Event
 read_events client read =
-    if quits (asked_in read) then map (Asked client) (up_to_quit (asked_in read)) ++ Ended client ∷ []
-    else map (Asked client) (asked_in read) ++ ending client read
+    if quits (commands_of read) then map (Asked client) (before_quit (commands_of read)) ++ Told client ok ∷ Ended client ∷ []
+    else map (Asked client) (commands_of read) ++ ending client read
 
 abbrev pub keeping : ℕ → Reading → Clients → Clients
 keeping client (Unfinished forms left) clients = finite.insert clients client left
 keeping client (Broken forms place kind) clients = finite.remove clients client
 
 abbrev pub clients_read : ℕ → Reading → Clients → Clients
-clients_read client read clients = if quits (asked_in read) then finite.remove clients client else keeping client read clients
+clients_read client read clients = if quits (commands_of read) then finite.remove clients client else keeping client read clients
 
 abbrev pub piece_events : ℕ → List ℕ → Option (List ℕ) → List Event
 piece_events client bytes None = []
@@ -54,7 +50,7 @@ abbrev pub clients_piece : ℕ → List ℕ → Option (List ℕ) → Clients �
 clients_piece client bytes None clients = clients
 clients_piece client bytes (Some left) clients = clients_read client (reading (left ++ bytes)) clients
 
--- what happens in a turn, with these clients open
+-- what happens in a turn behind its beginning, with these clients open
 abbrev pub events_by : What → ℕ → Clients → List Event
 events_by Opened client clients =
     if finite.contains_key clients client then []
@@ -75,75 +71,45 @@ clients_by Idle client clients = clients
 -- what happens in turns, in order
 abbrev pub events_from : Clients → List Turn → List Event
 events_from clients [] = []
-events_from clients (turn ∷ turns) = events_by turn.what turn.client clients ++ events_from (clients_by turn.what turn.client clients) turns
+events_from clients (turn ∷ turns) =
+    Began turn.clock turn.word ∷ events_by turn.what turn.client clients ++ events_from (clients_by turn.what turn.client clients) turns
 
-abbrev pub asked_by : Event → List Request
-asked_by (Asked client asked) = asked ∷ []
-asked_by (Told client answer) = []
-asked_by (Ended client) = []
+-- what happens in turns from the beginning
+abbrev pub events : List Turn → List Event
+events turns = events_from finite.empty turns
 
--- the requests of turns from the beginning, in the order in which they are taken
-abbrev pub requests_taken : List Turn → List Request
-requests_taken turns = flat_map asked_by (events_from finite.empty turns)
+-- the world behind an event: at the beginning of a turn keys leave, and a command does what it does
+abbrev pub happened : World → Event → World
+happened world (Began clock word) = begun world clock word
+happened world (Asked client words) = moved_by world (exec world Client words)
+happened world (Told client answer) = world
+happened world (Ended client) = world
 
-abbrev pub is_among : List ℕ → List (List ℕ) → Bool
-is_among wanted keys = list_any (bytes_eq wanted) keys
+-- what is sent in an event
+abbrev pub rows_of : World → Event → List OutRow
+rows_of world (Began clock word) = []
+rows_of world (Asked client words) = reply_row client (exec world Client words).reply ∷ []
+rows_of world (Told client answer) = reply_row client answer ∷ []
+rows_of world (Ended client) = Shut client ∷ []
 
--- what a request makes of a key: a value, none, or nothing new
-abbrev pub made_of : Request → List ℕ → Option (Option Entry)
-made_of (request.Set key value) wanted = if bytes_eq wanted key then Some (Some (plain_string value)) else None
-made_of (request.Del keys) wanted = if is_among wanted keys then Some None else None
-made_of _ wanted = None
+-- what is logged in an event: each key that leaves as a group of its own, and what a command does as one
+abbrev pub groups_of : World → Event → List Group
+groups_of world (Began clock word) = map removal (gone world.store (max world.time clock))
+groups_of world (Asked client words) = group_of (exec world Client words).records
+groups_of world (Told client answer) = []
+groups_of world (Ended client) = []
 
-abbrev pub or_earlier : Option (Option Entry) → Option (Option Entry) → Option (Option Entry)
-or_earlier (Some made) earlier = Some made
-or_earlier None earlier = earlier
+-- what is sent and logged in events, in order
+abbrev pub rows_in : World → List Event → List OutRow
+rows_in world [] = []
+rows_in world (event ∷ others) = rows_of world event ++ rows_in (happened world event) others
 
-abbrev pub last_made : List Request → List ℕ → Option (Option Entry)
-last_made [] wanted = None
-last_made (asked ∷ requests) wanted = or_earlier (last_made requests wanted) (made_of asked wanted)
-
--- the value of a key behind these requests: that of its last SET, unless a DEL of it came later
-abbrev pub value_after : List Request → List ℕ → Option Entry
-value_after requests wanted = unwrap_or (last_made requests wanted) None
-
--- each of these keys once, where it stands first
-abbrev pub each_once : List (List ℕ) → List (List ℕ)
-each_once [] = []
-each_once (key ∷ keys) = key ∷ filter (λ other. not (bytes_eq other key)) (each_once keys)
-
--- those of the keys that have a value behind these requests, each once
-abbrev pub held_of : List Request → List (List ℕ) → List (List ℕ)
-held_of before keys = filter (λ key. is_some (value_after before key)) (each_once keys)
-
--- the reply to a request behind these
-abbrev pub reply_after : List Request → Request → Reply
-reply_after before request.Ping = reply.Status (codes "PONG")
-reply_after before (request.Echo message) = reply.Bulk message
-reply_after before (request.Set key value) = reply.Status (codes "OK")
-reply_after before (request.Get key) = bulk_or_null (value_after before key)
-reply_after before (request.Del keys) = reply.Int (pos (length (held_of before keys)))
-reply_after before request.Quit = reply.Status (codes "OK")
-reply_after before (request.Refused why) = reply.Fault (refusal_text why)
-
--- its effect records: a SET that changes its key's value, and a DEL for each key that had one
-abbrev pub records_after : List Request → Request → List Record
-records_after before (request.Set key value) = if is_value (value_after before key) value then [] else Set key value ∷ []
-records_after before (request.Del keys) = map Del (held_of before keys)
-records_after before _ = []
-
-abbrev pub rows_after : List Request → List Event → List OutRow
-rows_after before [] = []
-rows_after before (Asked client asked ∷ events) = reply_row client (reply_after before asked) ∷ rows_after (before ++ asked ∷ []) events
-rows_after before (Told client answer ∷ events) = reply_row client answer ∷ rows_after before events
-rows_after before (Ended client ∷ events) = Shut client ∷ rows_after before events
-
-abbrev pub groups_after : List Request → List Request → List Group
-groups_after before [] = []
-groups_after before (asked ∷ requests) = group_of (records_after before asked) ++ groups_after (before ++ asked ∷ []) requests
+abbrev pub groups_in : World → List Event → List Group
+groups_in world [] = []
+groups_in world (event ∷ others) = groups_of world event ++ groups_in (happened world event) others
 
 -- the run is what these turns from the beginning tell
 pub record IsHistory (run : Run) (turns : List Turn) : Type 0 where
-  pub values : (key : List ℕ) → finite.get run.state.store key ≡ value_after (requests_taken turns) key
-  pub rows : run.rows ≡ rows_after [] (events_from finite.empty turns)
-  pub groups : run.groups ≡ groups_after [] (requests_taken turns)
+  pub world : world_of run.state ≡ fold happened empty_world (events turns)
+  pub rows : run.rows ≡ rows_in empty_world (events turns)
+  pub groups : run.groups ≡ groups_in empty_world (events turns)

@@ -3,8 +3,8 @@ pub use Rattle.resp_read.specs.Reading
 pub use Rattle.ks_space.specs.Store
 pub use Rattle.fx_record.specs.Records
 pub use Rattle.fx_log.specs.Groups
-pub mod Requests
-pub mod Answers
+pub use Rattle.cmd_exec.specs.Worlds
+pub use Rattle.cmd_exec.specs.Exec
 pub mod Machine
 pub mod Kept
 pub mod Reads

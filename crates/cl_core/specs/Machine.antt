@@ -16,22 +16,35 @@ use Rattle.rs_outside.specs.declared.turn.What.{What}
 use Rattle.rs_outside.specs.declared.turn.What.TheVariants.{Opened, Piece, Closed, Idle}
 use Rattle.rs_outside.specs.declared.turn.OutRow.{OutRow}
 use Rattle.rs_outside.specs.declared.turn.OutRow.TheVariants.{Sent, Shut}
-use Rattle.fx_log.specs.declared.group.Group.{Group}
+use Rattle.ks_space.specs.Store.{Store}
+use Rattle.ks_space.specs.Purge.{gone}
 use Rattle.fx_record.specs.declared.record.Record.{Record}
-use Rattle.ks_space.specs.contracts.entry.Entry as entry
-use Rattle.cl_core.specs.declared.request.Request.{Request}
-use Rattle.cl_core.specs.Requests.{request_of, is_quit}
-use Rattle.cl_core.specs.Answers.{Store, reply_to, store_after, records_of}
+use Rattle.fx_record.specs.declared.record.Record.TheVariants.{Del}
+use Rattle.fx_log.specs.declared.group.Group.{Group}
+use Rattle.cmd_args.specs.declared.commands.CmdId.TheVariants.{Quit}
+use Rattle.cmd_args.specs.declared.turn.Mode.TheVariants.{Client}
+use Rattle.cmd_args.specs.Table.{is_name}
+use Rattle.cmd_rows.specs.Outcomes.{Outcome, ok}
+use Rattle.cmd_exec.specs.Worlds.{World, empty_world, begun, moved_by, world_code}
+use Rattle.cmd_exec.specs.Exec.{exec}
 
 -- the open clients by number, each with its bytes that are not taken yet
 abbrev pub Clients : Type 0
 Clients = finite.FinMap nat_cmp (List ℕ)
 
--- what is kept from turn to turn: the store, the open clients, and the time of the last turn
+-- what is kept from turn to turn: the store, the open clients, the time of the last turn, and the state of its draws
 pub record State : Type 0 where
   pub store : Store
   pub clients : Clients
   pub time : ℕ
+  pub draws : ℕ
+
+-- what the commands of clients find, and what they leave
+abbrev pub world_of : State → World
+world_of state = record { store = state.store; time = state.time; draws = state.draws }
+
+abbrev pub with_world : World → State → State
+with_world world state = record { store = world.store; clients = state.clients; time = world.time; draws = world.draws }
 
 -- a state, with the rows sent and the groups logged that led to it
 pub record Run : Type 0 where
@@ -45,7 +58,7 @@ silent state = record { state = state; rows = []; groups = [] }
 
 -- no keys, no clients, and time 0
 abbrev pub beginning : State
-beginning = record { store = finite.empty; clients = finite.empty; time = 0 }
+beginning = record { store = empty_world.store; clients = finite.empty; time = empty_world.time; draws = empty_world.draws }
 
 -- a row more
 abbrev pub sending : OutRow → Run → Run
@@ -67,26 +80,40 @@ group_of [] = []
 group_of (one ∷ []) = record { records = one ∷ []; wrapped = false } ∷ []
 group_of (one ∷ other ∷ records) = record { records = one ∷ other ∷ records; wrapped = true } ∷ []
 
--- one request of a client more: its reply, and its records as a group
-abbrev pub with_request : ℕ → Run → Request → Run
-with_request client run asked = record {
-  state = record run.state { store = store_after run.state.store asked };
-  rows = run.rows ++ reply_row client (reply_to run.state.store asked) ∷ [];
-  groups = run.groups ++ group_of (records_of run.state.store asked);
+-- a command was carried out for a client: its reply is sent, and its records are a group
+abbrev pub having_done : ℕ → Outcome → Run → Run
+having_done client outcome run = record {
+  state = with_world (moved_by (world_of run.state) outcome) run.state;
+  rows = run.rows ++ reply_row client outcome.reply ∷ [];
+  groups = run.groups ++ group_of outcome.records;
 }
 
--- the requests that are taken of these: up to the first QUIT, and with it
-abbrev pub up_to_quit : List Request → List Request
-up_to_quit [] = []
-up_to_quit (asked ∷ requests) = if is_quit asked then asked ∷ [] else asked ∷ up_to_quit requests
+-- one command of a client more
+abbrev pub with_command : ℕ → Run → List (List ℕ) → Run
+with_command client run words = having_done client (exec (world_of run.state) Client words) run
 
-abbrev pub quits : List Request → Bool
+-- QUIT alone, in letters of either case
+abbrev pub is_quit : List (List ℕ) → Bool
+is_quit [] = false
+is_quit (name ∷ []) = is_name name Quit
+is_quit (name ∷ word ∷ words) = false
+
+-- the commands that are carried out of these: those before the first QUIT
+abbrev pub before_quit : List (List (List ℕ)) → List (List (List ℕ))
+before_quit [] = []
+before_quit (words ∷ commands) = if is_quit words then [] else words ∷ before_quit commands
+
+abbrev pub quits : List (List (List ℕ)) → Bool
 quits [] = false
-quits (asked ∷ requests) = if is_quit asked then true else quits requests
+quits (words ∷ commands) = if is_quit words then true else quits commands
 
 -- the client is shut, and open no more
 abbrev pub shutting : ℕ → Run → Run
 shutting client run = sending (Shut client) (with_clients (finite.remove run.state.clients client) run)
+
+-- a QUIT is answered, and the client shut
+abbrev pub quitting : ℕ → Run → Run
+quitting client run = shutting client (sending (reply_row client ok) run)
 
 abbrev pub protocol_error : BadFrame → Reply
 protocol_error NoStar = reply.Fault (codes "ERR Protocol error: expected '*'")
@@ -105,15 +132,12 @@ abbrev pub settling : ℕ → Reading → Run → Run
 settling client (Unfinished forms rest) run = holding client rest run
 settling client (Broken forms place kind) run = shutting client (sending (reply_row client (protocol_error kind)) run)
 
-abbrev pub asked_in : Reading → List Request
-asked_in read = map request_of (commands_of read)
-
--- The bytes of a client, those that were left and those that came, which read so: the commands in them are taken in order.
--- Behind a QUIT the client is shut, and the bytes behind it are dropped.
+-- The bytes of a client, those that were left and those that came, which read so: the commands in them are carried out in
+-- order. Behind a QUIT the client is shut, and the bytes behind it are dropped.
 abbrev pub taking : ℕ → Reading → Run → Run
 taking client read run =
-    if quits (asked_in read) then shutting client (fold (with_request client) run (up_to_quit (asked_in read)))
-    else settling client read (fold (with_request client) run (asked_in read))
+    if quits (commands_of read) then quitting client (fold (with_command client) run (before_quit (commands_of read)))
+    else settling client read (fold (with_command client) run (commands_of read))
 
 -- what a reading means is said by the law `reading_is_the_grammar` of the crate that reads
 abbrev pub piece_of : ℕ → List ℕ → Option (List ℕ) → Run → Run
@@ -136,13 +160,21 @@ turn_by (Piece bytes) client run = piece_of client bytes (finite.get run.state.c
 turn_by Closed client run = with_clients (finite.remove run.state.clients client) run
 turn_by Idle client run = run
 
--- the time of a turn is the greater of the last time and the turn's clock
-abbrev pub at_clock : ℕ → Run → Run
-at_clock clock run = record run { state = record run.state { time = max run.state.time clock } }
+-- a key that left since its deadline is past: a group of one record
+abbrev pub removal : List ℕ → Group
+removal key = record { records = Del key ∷ []; wrapped = false }
+
+-- a turn begins: its time is the greater of the last time and the clock, the keys leave whose deadline is below it, in the
+-- order of their deadlines and then of their bytes, and draws begin at the turn's word
+abbrev pub begun_at : ℕ → ℕ → Run → Run
+begun_at clock word run = record run {
+  state = with_world (begun (world_of run.state) clock word) run.state;
+  groups = run.groups ++ map removal (gone run.state.store (max run.state.time clock));
+}
 
 -- a turn on top of a run
 abbrev pub turn_on : Run → Turn → Run
-turn_on run turn = turn_by turn.what turn.client (at_clock turn.clock run)
+turn_on run turn = turn_by turn.what turn.client (begun_at turn.clock turn.word run)
 
 -- a turn from a state
 abbrev pub step : State → Turn → Run
@@ -160,8 +192,8 @@ with_turn run turn = run_then run (step run.state turn)
 abbrev pub run_from : State → List Turn → Run
 run_from state turns = fold with_turn (silent state) turns
 
--- a state is stored as the pair of its parts
+-- a state is stored as its world and its clients
 abbrev pub state_code : Coded State
 state_code =
-    code_by (Store × (Clients × ℕ)) (coded× (finite.code (coded_list coded_ℕ) entry.the_row.coded) (coded× (finite.code coded_ℕ (coded_list coded_ℕ)) coded_ℕ))
-    (λ s. (s.store, (s.clients, s.time))) (λ p. record { store = p.0; clients = p.1.0; time = p.1.1 }) (λ _. refl)
+    code_by (World × Clients) (coded× world_code (finite.code coded_ℕ (coded_list coded_ℕ)))
+    (λ s. (world_of s, s.clients)) (λ p. record { store = p.0.store; clients = p.1; time = p.0.time; draws = p.0.draws }) (λ _. refl)

@@ -1,50 +1,55 @@
 ghost use Rattle.std.specs.Prelude.{◌≡◌, List, [], ◌∷◌, ◌++◌, map, fold, not, OnOk, IfOk};
 ghost use Rattle.std.specs.FinMap as finite;
-ghost use Rattle.resp_reply.specs.Replies.{reply_text};
-ghost use Rattle.cl_core.specs.declared.request.Request.{Request};
-ghost use Rattle.std.specs.List.{AllByRecursion};
-ghost use Rattle.resp_read.specs.Frames.{IsCommand};
-ghost use Rattle.cl_core.specs.Requests.{request_of, IsWithin};
 ghost use Rattle.rs_outside.specs.declared.turn.Go.{Go};
 ghost use Rattle.rs_outside.specs.declared.turn.OutRow.{OutRow};
 ghost use Rattle.fx_log.specs.declared.group.Group.{Group};
-ghost use Rattle.cl_core.specs.Machine.{group_of, protocol_error};
+ghost use Rattle.cmd_rows.specs.Outcomes.{ok};
+ghost use Rattle.cl_core.specs.Machine.{is_quit, reply_row};
 
-use crate::Request;
-use crate::answering::answer;
 use crate::client::{Client, Clients, Fed, MAX_CLIENTS};
+use crate::grouping::{add_group, add_removals};
 use crate::laws::turns_keep_validity;
-use fx_log::{Effects, Group, Groups};
+use crate::sending::{dismiss, protocol_fault, send};
+use cmd_args::{CmdId, Mode};
+use cmd_exec::Desk;
+use cmd_rows::ok;
+use fx_log::Groups;
 use ks_space::Space;
-use resp_read::{BadFrame, Commands, reading_is_the_grammar};
-use resp_reply::{Reply, put};
-use rs_base::{Bytes, NoMemory};
-use rs_outside::{Go, OutRow, Outs, Turn, What};
+use resp_read::{BadFrame, Commands};
+use resp_reply::Reply;
+use rs_base::{Bytes, NoMemory, Words};
+use rs_outside::{Go, Outs, Turn, What};
 use std::alloc::Global;
 use std::collections::VecDeque;
 use std::marker::Model;
 
-/// The server: a store, the open clients, and the time of the last turn. Contracts see it as that state.
+/// The server: a desk at which the commands of clients are carried out, and the open clients. Contracts see it as the store,
+/// the clients, the time of the last turn and the state of its draws.
 #[derive(Drop)]
 pub struct Server {
     alloc: Global,
-    store: Space,
+    desk: Desk,
     clients: Clients,
-    time: u64,
 }
 
 impl Model for Server {
+    ghost use Rattle.std.specs.Prelude.{◌≡◌};
+    ghost use Rattle.cmd_args.specs.declared.turn.Mode.TheVariants.{Client};
+    ghost use Rattle.cmd_exec.specs.Worlds.{IsIdle};
     ghost use Rattle.cl_core.specs.Machine.{State, state_code};
 
     ghost Value = { State };
 
     ghost coded = { state_code };
 
-    ghost view = { λ s. record { store = s.store; clients = s.clients; time = s.time } };
+    ghost view = { λ s. record { store = s.desk.world.store; clients = s.clients; time = s.desk.world.time; draws = s.desk.world.draws } };
+
+    // Between commands nothing waits to be logged.
+    ghost invariant = { λ s. (s.desk.mode ≡ Client) × IsIdle s.desk };
 }
 
 impl Server {
-    ghost use Rattle.cl_core.specs.Machine.{State, beginning, step, turn_on, with_request, opening, piece_of, reply_row, up_to_quit, quits};
+    ghost use Rattle.cl_core.specs.Machine.{State, beginning, step, turn_on, begun_at, with_command, opening, piece_of, before_quit, quits};
     ghost use Rattle.cl_core.specs.Valid.{IsValid};
     ghost use Rattle.cl_core.specs.Taken.{put_back, told_of};
 
@@ -53,15 +58,15 @@ impl Server {
         ensures state { result ≡ beginning }
         ensures valid { IsValid result }
     {
+        turns_keep_validity();
         Server {
             alloc,
-            store: Space::new(alloc),
+            desk: Desk::new(alloc, Mode::Client),
             clients: Clients::new(alloc),
-            time: 0,
         }
     }
 
-    /// Takes one turn. Adds its rows to `outs`, and the groups of its commands to `groups`.
+    /// Takes one turn. Adds its rows to `outs`, and the groups of the keys that leave and of its commands to `groups`.
     ///
     /// # Errors
     ///
@@ -83,6 +88,13 @@ impl Server {
         Ok(Go::On)
     }
 
+    /// The store.
+    pub fn space(&self) -> &Space
+        ensures { result.now ≡ self.now.store }
+    {
+        self.desk.space()
+    }
+
     // Takes one turn, on top of what stands in `outs` and `groups`.
     fn take_turn(
         &mut self,
@@ -93,23 +105,25 @@ impl Server {
         ensures { OnOk result (record { state = self.new; rows = outs.new; groups = groups.new }
             ≡ turn_on (record { state = self.old; rows = outs.old; groups = groups.old }) turn.now) }
     {
-        self.time = self.time.max(turn.clock);
+        self.begin(turn.clock, turn.word, groups)?;
         match &turn.what {
             What::Opened => self.open(turn.client, outs),
             What::Piece(bytes) => self.take_piece(turn.client, bytes, outs, groups),
             What::Closed => {
-                let _closed = self.clients.take(turn.client);
+                self.close(turn.client);
                 Ok(())
             }
             What::Idle => Ok(()),
         }
     }
 
-    /// The store.
-    pub fn space(&self) -> &Space
-        ensures { result.now ≡ self.now.store }
+    // Begins a turn: the keys whose deadline is past leave, each with a group of its own.
+    fn begin(&mut self, clock: u64, word: u64, groups: &mut Groups) -> Result<(), NoMemory>
+        ensures same { (rows : List OutRow) → OnOk result (record { state = self.new; rows = rows; groups = groups.new }
+            ≡ begun_at clock word (record { state = self.old; rows = rows; groups = groups.old })) }
     {
-        &self.store
+        let keys = self.desk.begin(clock, word)?;
+        add_removals(self.alloc, keys, groups)
     }
 
     // Opens a client, or refuses it where the most are open.
@@ -124,7 +138,14 @@ impl Server {
             return self.clients.put(client, Client::new(self.alloc));
         }
         let fault = Reply::fault(self.alloc, b"ERR max number of clients reached")?;
-        self.dismiss(client, fault, outs)
+        dismiss(self.alloc, client, &fault, outs)
+    }
+
+    // Closes a client, where it is open.
+    fn close(&mut self, client: u32)
+        ensures { self.new ≡ record self.old { clients = finite.remove self.old.clients client } }
+    {
+        let _closed = self.clients.take(client);
     }
 
     // Takes what a client sent, where it is open.
@@ -138,7 +159,6 @@ impl Server {
         ensures { OnOk result (record { state = self.new; rows = outs.new; groups = groups.new }
             ≡ piece_of client bytes.now (finite.get self.old.clients client) (record { state = self.old; rows = outs.old; groups = groups.old })) }
     {
-        reading_is_the_grammar();
         let Some(reader) = self.clients.take(client) else {
             return Ok(());
         };
@@ -157,14 +177,13 @@ impl Server {
         outs: &mut Outs,
         groups: &mut Groups,
     ) -> Result<(), NoMemory>
-        requires { AllByRecursion IsCommand (map (λ c. c.words) commands) }
         ensures { OnOk result (record { state = self.new; rows = outs.new; groups = groups.new }
-            ≡ put_back client reader (map (λ c. request_of c.words) commands) (record { state = self.old; rows = outs.old; groups = groups.old })) }
+            ≡ put_back client reader (map (λ c. c.words) commands) (record { state = self.old; rows = outs.old; groups = groups.old })) }
     {
         if self.take_all(client, commands, outs, groups)? {
             self.clients.put(client, reader)
         } else {
-            outs.push(OutRow::Shut(client))
+            self.quit(client, outs)
         }
     }
 
@@ -178,19 +197,18 @@ impl Server {
         outs: &mut Outs,
         groups: &mut Groups,
     ) -> Result<(), NoMemory>
-        requires { AllByRecursion IsCommand (map (λ c. c.words) commands) }
         ensures { OnOk result (record { state = self.new; rows = outs.new; groups = groups.new }
-            ≡ told_of client kind (map (λ c. request_of c.words) commands) (record { state = self.old; rows = outs.old; groups = groups.old })) }
+            ≡ told_of client kind (map (λ c. c.words) commands) (record { state = self.old; rows = outs.old; groups = groups.old })) }
     {
         if self.take_all(client, commands, outs, groups)? {
             let fault = protocol_fault(self.alloc, kind)?;
-            self.dismiss(client, fault, outs)
+            dismiss(self.alloc, client, &fault, outs)
         } else {
-            outs.push(OutRow::Shut(client))
+            self.quit(client, outs)
         }
     }
 
-    // Takes commands one by one, up to a QUIT. Answers whether there was none.
+    // Carries out commands one by one, up to a QUIT. Answers whether there was none.
     fn take_all(
         &mut self,
         client: u32,
@@ -198,90 +216,52 @@ impl Server {
         outs: &mut Outs,
         groups: &mut Groups,
     ) -> Result<bool, NoMemory>
-        requires { AllByRecursion IsCommand (map (λ c. c.words) commands) }
-        ensures going { IfOk result (λ going. going ≡ not (quits (map (λ c. request_of c.words) commands))) }
+        ensures going { IfOk result (λ going. going ≡ not (quits (map (λ c. c.words) commands))) }
         ensures run { OnOk result (record { state = self.new; rows = outs.new; groups = groups.new }
-            ≡ fold (with_request client) (record { state = self.old; rows = outs.old; groups = groups.old }) (up_to_quit (map (λ c. request_of c.words) commands))) }
+            ≡ fold (with_command client) (record { state = self.old; rows = outs.old; groups = groups.old }) (before_quit (map (λ c. c.words) commands))) }
     {
         let mut left = VecDeque::from_vec(commands.into_vec());
         while let Some(command) = left.pop_front() {
-            let request = Request::from_words(self.alloc, command.words)?;
-            let quits = request.is_quit();
-            self.take(client, request, outs, groups)?;
-            if quits {
+            if is_quit(&command.words) {
                 return Ok(false);
             }
+            self.take(client, &command.words, outs, groups)?;
         }
         Ok(true)
     }
 
-    // Takes one request: its reply, and its records as a group.
+    // Carries out one command: its reply, and its records as a group.
     fn take(
         &mut self,
         client: u32,
-        request: Request,
+        words: &Words,
         outs: &mut Outs,
         groups: &mut Groups,
     ) -> Result<(), NoMemory>
-        requires { IsWithin request }
         ensures { OnOk result (record { state = self.new; rows = outs.new; groups = groups.new }
-            ≡ with_request client (record { state = self.old; rows = outs.old; groups = groups.old }) request) }
+            ≡ with_command client (record { state = self.old; rows = outs.old; groups = groups.old }) words.now) }
     {
-        let mut records = Effects::new(self.alloc);
-        let reply = answer(self.alloc, &mut self.store, request, &mut records)?;
-        self.send(client, reply, outs)?;
+        let reply = self.desk.exec(words)?;
+        let records = self.desk.take_effects();
+        send(self.alloc, client, &reply, outs)?;
         add_group(records, groups)
     }
 
-    // Sends a reply.
-    fn send(&self, client: u32, reply: Reply, outs: &mut Outs) -> Result<(), NoMemory>
-        ensures { OnOk result (outs.new ≡ outs.old ++ reply_row client reply ∷ []) }
+    // Answers a QUIT, and shuts the client.
+    fn quit(&self, client: u32, outs: &mut Outs) -> Result<(), NoMemory>
+        ensures { OnOk result (outs.new ≡ (outs.old ++ reply_row client ok ∷ []) ++ OutRow.Shut client ∷ []) }
     {
-        let bytes = spell(self.alloc, &reply)?;
-        outs.push(OutRow::Sent(client, bytes))
-    }
-
-    // Sends a last reply, and shuts the client.
-    fn dismiss(&self, client: u32, reply: Reply, outs: &mut Outs) -> Result<(), NoMemory>
-        ensures { OnOk result (outs.new ≡ (outs.old ++ reply_row client reply ∷ []) ++ OutRow.Shut client ∷ []) }
-    {
-        self.send(client, reply, outs)?;
-        outs.push(OutRow::Shut(client))
+        let reply = ok(self.alloc)?;
+        dismiss(self.alloc, client, &reply, outs)
     }
 }
 
-// The bytes of a reply.
-fn spell(alloc: Global, reply: &Reply) -> Result<Bytes, NoMemory>
-    ensures { IfOk result (λ bytes. bytes ≡ reply_text reply.now) }
+// Whether the words are QUIT alone.
+fn is_quit(words: &Words) -> bool
+    ensures { result ≡ is_quit words.now }
 {
-    let mut bytes = Bytes::new(alloc);
-    put(reply, &mut bytes)?;
-    Ok(bytes)
-}
-
-// Adds the records of a command as one group, where there are any.
-fn add_group(records: Effects, groups: &mut Groups) -> Result<(), NoMemory>
-    ensures { OnOk result (groups.new ≡ groups.old ++ group_of records) }
-{
-    match records.len() {
-        0 => Ok(()),
-        count => groups.push(Group {
-            records,
-            wrapped: count > 1,
-        }),
+    match words.as_slice() {
+        [name] => name.as_slice().eq_ignore_ascii_case(CmdId::Quit.name()),
+        _ => false,
     }
-}
-
-// The fault that tells a client where its bytes went bad.
-fn protocol_fault(alloc: Global, kind: BadFrame) -> Result<Reply, NoMemory>
-    ensures { IfOk result (λ reply. reply ≡ protocol_error kind) }
-{
-    let text = match kind {
-        BadFrame::NoStar => b"ERR Protocol error: expected '*'".as_slice(),
-        BadFrame::Count => b"ERR Protocol error: invalid multibulk length",
-        BadFrame::NoDollar => b"ERR Protocol error: expected '$'",
-        BadFrame::Length => b"ERR Protocol error: invalid bulk length",
-        BadFrame::NoEnd => b"ERR Protocol error: missing CRLF after bulk",
-    };
-    Reply::fault(alloc, text)
 }

@@ -35,12 +35,13 @@ fn frame(alloc: Global, words: &Words) -> Result<Bytes, NoMemory> {
 
 fn take(
     server: &mut Server,
+    clock: u64,
     what: What,
     outs: &mut Outs,
     groups: &mut Groups,
 ) -> Result<(), NoMemory> {
     let turn = Turn {
-        clock: 1000,
+        clock,
         word: 0,
         client: 1,
         what,
@@ -76,138 +77,118 @@ fn tell_records(alloc: Global, records: &Effects, out: &mut Bytes) -> Result<(),
     Ok(())
 }
 
-// The records of groups: their words, each before a space, and each record before a `;`.
+// The records of groups: their words, each before a space, and each record before a `;`, and behind those of a group a `*`
+// where it is wrapped, and else a `|`.
 fn logged(alloc: Global, groups: &Groups) -> Result<Bytes, NoMemory> {
     let mut out = Bytes::new(alloc);
     for group in groups.as_slice() {
         tell_records(alloc, &group.records, &mut out)?;
+        out.push(if group.wrapped { b'*' } else { b'|' })?;
     }
     Ok(out)
 }
 
-// Whether a client that asks this is sent this reply, and these records are logged.
+// Whether a client that asks this is sent this reply, and this is logged.
 fn answers(
     alloc: Global,
     server: &mut Server,
+    clock: u64,
     words: &Words,
     reply: &[u8],
     records: &[u8],
 ) -> Result<bool, NoMemory> {
     let mut outs = Outs::new(alloc);
     let mut groups = Groups::new(alloc);
-    take(server, What::Opened, &mut outs, &mut groups)?;
+    take(server, clock, What::Opened, &mut outs, &mut groups)?;
     let piece = frame(alloc, words)?;
-    take(server, What::Piece(piece), &mut outs, &mut groups)?;
+    take(server, clock, What::Piece(piece), &mut outs, &mut groups)?;
     let sent = sent(alloc, &outs)?;
     let logged = logged(alloc, &groups)?;
     Ok(sent.as_slice() == reply && logged.as_slice() == records)
 }
 
-// A request's words between spaces, its reply, and its records.
-type Row = (&'static [u8], &'static [u8], &'static [u8]);
+// The clock, a command's words between spaces, its reply, and what is logged.
+type Row = (u64, &'static [u8], &'static [u8], &'static [u8]);
 
-// Requests one behind the other.
-static REQUESTS: [Row; 29] = [
-    (b"PING", b"+PONG\r\n", b""),
-    (b"ping hello", b"$5\r\nhello\r\n", b""),
-    (b"PING ", b"$0\r\n\r\n", b""),
+// Commands one behind the other.
+static COMMANDS: [Row; 22] = [
+    (1000, b"PING", b"+PONG\r\n", b""),
+    (1000, b"SET k v PX 10", b"+OK\r\n", b"SET k v PXAT 1010 ;|"),
+    (1000, b"SET k v PX 10", b"+OK\r\n", b""),
+    (1010, b"PTTL k", b":0\r\n", b""),
+    (1010, b"get k", b"$1\r\nv\r\n", b""),
+    (1011, b"GET k", b"$-1\r\n", b"DEL k ;|"),
+    (900, b"TIME", b"*2\r\n$1\r\n1\r\n$5\r\n11000\r\n", b""),
+    (900, b"SET k w PX 1", b"+OK\r\n", b"SET k w PXAT 1012 ;|"),
     (
-        b"PING a b",
-        b"-ERR wrong number of arguments for 'ping' command\r\n",
-        b"",
-    ),
-    (b"GET k", b"$-1\r\n", b""),
-    (b"SET k v", b"+OK\r\n", b"SET k v ;"),
-    (b"SET k v", b"+OK\r\n", b""),
-    (b"get k", b"$1\r\nv\r\n", b""),
-    (b"sEt k w", b"+OK\r\n", b"SET k w ;"),
-    (
-        b"SET",
-        b"-ERR wrong number of arguments for 'set' command\r\n",
-        b"",
+        1012,
+        b"SET b 1 PXAT 1020",
+        b"+OK\r\n",
+        b"SET b 1 PXAT 1020 ;|",
     ),
     (
-        b"SET k",
-        b"-ERR wrong number of arguments for 'set' command\r\n",
-        b"",
-    ),
-    (b"SET k x NX", b"-ERR syntax error\r\n", b""),
-    (b"SET k x EX 10", b"-ERR syntax error\r\n", b""),
-    (b"GET k", b"$1\r\nw\r\n", b""),
-    (
-        b"GET",
-        b"-ERR wrong number of arguments for 'get' command\r\n",
-        b"",
+        1013,
+        b"SET a 2 PXAT 1020",
+        b"+OK\r\n",
+        b"DEL k ;|SET a 2 PXAT 1020 ;|",
     ),
     (
-        b"GET k k",
-        b"-ERR wrong number of arguments for 'get' command\r\n",
-        b"",
+        1013,
+        b"SET c 3 PXAT 1019",
+        b"+OK\r\n",
+        b"SET c 3 PXAT 1019 ;|",
     ),
-    (b"SET b 2", b"+OK\r\n", b"SET b 2 ;"),
+    (1013, b"SET d 4", b"+OK\r\n", b"SET d 4 ;|"),
     (
-        b"DEL",
-        b"-ERR wrong number of arguments for 'del' command\r\n",
-        b"",
+        2000,
+        b"SET a 5",
+        b"+OK\r\n",
+        b"DEL c ;|DEL a ;|DEL b ;|SET a 5 ;|",
     ),
-    (b"DEL a b a b k", b":2\r\n", b"DEL b ;DEL k ;"),
-    (b"DEL b", b":0\r\n", b""),
-    (b"GET k", b"$-1\r\n", b""),
-    (b"SET  ", b"+OK\r\n", b"SET   ;"),
-    (b"GET ", b"$0\r\n\r\n", b""),
-    (b"del ", b":1\r\n", b"DEL  ;"),
-    (b"QUIT", b"+OK\r\n", b""),
+    (2000, b"DEL d e a d", b":2\r\n", b"DEL d ;DEL a ;*"),
+    (2000, b"QUIT", b"+OK\r\n", b""),
+    (2000, b"quit", b"+OK\r\n", b""),
     (
+        2000,
         b"QUIT now",
         b"-ERR wrong number of arguments for 'quit' command\r\n",
         b"",
     ),
-    (b"NoSuch a b", b"-ERR unknown command 'NoSuch'\r\n", b""),
-    (b"a\r\nb", b"-ERR unknown command 'a  b'\r\n", b""),
-    (b"", b"-ERR unknown command ''\r\n", b""),
+    (
+        2000,
+        b"PING a b",
+        b"-ERR wrong number of arguments for 'ping' command\r\n",
+        b"",
+    ),
+    (2000, b"SET k x NX XX", b"-ERR syntax error\r\n", b""),
+    (
+        2000,
+        b"NoSuch a b",
+        b"-ERR unknown command 'NoSuch'\r\n",
+        b"",
+    ),
+    (2000, b"", b"-ERR unknown command ''\r\n", b""),
+    (2000, b"TIME", b"*2\r\n$1\r\n2\r\n$1\r\n0\r\n", b""),
 ];
 
-// How many requests from the first on are answered as told.
+// How many commands from the first on are answered as told.
 fn agreeing(alloc: Global, server: &mut Server, rows: &[Row]) -> Result<usize, NoMemory> {
-    for (at, (text, reply, records)) in rows.iter().enumerate() {
+    for (at, (clock, text, reply, records)) in rows.iter().enumerate() {
         let words = words_of(alloc, text)?;
-        if !answers(alloc, server, &words, reply, records)? {
+        if !answers(alloc, server, *clock, &words, reply, records)? {
             return Ok(at);
         }
     }
     Ok(rows.len())
 }
 
-// Adds a byte to a name, and to its reply, which has the first 128 bytes, and a space for each CR and LF.
-fn add_byte(at: u8, name: &mut Bytes, spelled: &mut Bytes) -> Result<(), NoMemory> {
-    name.push(at)?;
-    if at < 128 {
-        spelled.push(if at == 10 || at == 13 { b' ' } else { at })?;
-    }
-    Ok(())
-}
-
-// Whether a name of 130 bytes, each of its own, is told by its first 128.
-fn cuts_long_names(alloc: Global, server: &mut Server) -> Result<bool, NoMemory> {
-    let mut name = Bytes::new(alloc);
-    let mut spelled = Bytes::from_slice(alloc, b"-ERR unknown command '")?;
-    for at in 0..130u8 {
-        add_byte(at, &mut name, &mut spelled)?;
-    }
-    spelled.append(b"'\r\n")?;
-    let mut words = Words::new(alloc);
-    words.push(name)?;
-    answers(alloc, server, &words, spelled.as_slice(), b"")
-}
-
 #[test]
-fn answers_requests(rt: HostRuntime) -> Result<(), Fail> {
+fn answers_commands(rt: HostRuntime) -> Result<(), Fail> {
     let mut server = Server::new(rt.alloc());
     assert_eq!(rt;
-        agreeing(rt.alloc(), &mut server, &REQUESTS)?,
-        REQUESTS.len()
+        agreeing(rt.alloc(), &mut server, &COMMANDS)?,
+        COMMANDS.len()
     );
     assert_eq!(rt; server.space().len(), 0);
-    assert!(rt; cuts_long_names(rt.alloc(), &mut server)?);
     Ok(())
 }

@@ -22,11 +22,16 @@ use Rattle.cmd_keys.specs.DeadlineRows.{expire_row, persist_row, deadline_row}
 use Rattle.cmd_keys.specs.Laws.{KeepsKeys}
 use Rattle.cmd_keys.specs.Rows.{behind_name, with_word, with_two_words, reading_row, changing_row, key_row}
 
--- each word of short words is short
+-- what is so of each of the words is so of the one at a place
 pub word_at-all : (Q : List ℕ → Type 0) (words : List (List ℕ)) (place : ℕ) (word : List ℕ) → AllByRecursion Q words → word_at words place ≡ Ok word → Q word
 word_at-all Q [] place word short e = absurd (cc)
 word_at-all Q (w ∷ words) zero word short e = let same : w ≡ word = cc in subst Q same short.0
 word_at-all Q (w ∷ words) (suc place) word short e = word_at-all Q words place word short.1 e
+
+-- and of each behind the name, of the one at a place behind it
+pub word_behind-all : (Q : List ℕ → Type 0) (words : List (List ℕ)) (place : ℕ) (word : List ℕ) → AllByRecursion Q (behind_name words) → word_at words (suc place) ≡ Ok word → Q word
+word_behind-all Q [] place word short e = absurd (cc)
+word_behind-all Q (name ∷ words) place word short e = word_at-all Q words place word short e
 
 pub behind_name-all : (Q : List ℕ → Type 0) (words : List (List ℕ)) → AllByRecursion Q words → AllByRecursion Q (behind_name words)
 behind_name-all Q [] short = tt
@@ -79,14 +84,14 @@ module _ (P : Record → Type 0) (Q : List ℕ → Type 0) (now : ℕ) (deleting
   persist-all : (store : Store) (key : List ℕ) → Q key → AllByRecursion P (persist_row store key).records
   persist-all store key short = either-all (is_some (deadline_at store key)) _ _ (persisting key short, tt) tt
 
-  two-all : (words : List (List ℕ)) (row : List ℕ → List ℕ → Outcome) → AllByRecursion Q words → ((one other : List ℕ) → Q one → Q other → AllByRecursion P (row one other).records)
+  two-all : (words : List (List ℕ)) (row : List ℕ → List ℕ → Outcome) → AllByRecursion Q (behind_name words) → ((one other : List ℕ) → Q one → Q other → AllByRecursion P (row one other).records)
       → AllByRecursion P (with_two_words words row).records
   two-all words row short h =
       found-all (word_at words 1) _ (λ one first. found-all (word_at words 2) _ (λ other second.
-      h one other (word_at-all Q words 1 one short first) (word_at-all Q words 2 other short second)))
+      h one other (word_behind-all Q words 0 one short first) (word_behind-all Q words 1 other short second)))
 
-  one-all : (words : List (List ℕ)) (row : List ℕ → Outcome) → AllByRecursion Q words → ((word : List ℕ) → Q word → AllByRecursion P (row word).records) → AllByRecursion P (with_word words row).records
-  one-all words row short h = found-all (word_at words 1) row (λ word first. h word (word_at-all Q words 1 word short first))
+  one-all : (words : List (List ℕ)) (row : List ℕ → Outcome) → AllByRecursion Q (behind_name words) → ((word : List ℕ) → Q word → AllByRecursion P (row word).records) → AllByRecursion P (with_word words row).records
+  one-all words row short h = found-all (word_at words 1) row (λ word first. h word (word_behind-all Q words 0 word short first))
 
   selected-all : (n : ℤ) → AllByRecursion P (selected n).records
   selected-all (pos zero) = tt
@@ -97,7 +102,7 @@ module _ (P : Record → Type 0) (Q : List ℕ → Type 0) (now : ℕ) (deleting
   ping-all None = tt
   ping-all (Some word) = tt
 
-  reading-all : (store : Store) (id : CmdId) (words : List (List ℕ)) → AllByRecursion Q words → AllByRecursion P (reading_row store now id words).records
+  reading-all : (store : Store) (id : CmdId) (words : List (List ℕ)) → AllByRecursion Q (behind_name words) → AllByRecursion P (reading_row store now id words).records
   unfolding reading_row
   reading-all store Ping words short = ping-all (slice_get words 1)
   reading-all store Echo words short = one-all words echo_row short (λ w s. tt)
@@ -110,12 +115,12 @@ module _ (P : Record → Type 0) (Q : List ℕ → Type 0) (now : ℕ) (deleting
   reading-all store ExpireTime words short = one-all words (deadline_row store Second now) short (λ w s. tt)
   reading-all store _ words short = tt
 
-  changing-all : (store : Store) (id : CmdId) (words : List (List ℕ)) → AllByRecursion Q words → ((KeepsKeys id → ⊥) → P Flushing) → AllByRecursion P (changing_row store now id words).records
+  changing-all : (store : Store) (id : CmdId) (words : List (List ℕ)) → AllByRecursion Q (behind_name words) → ((KeepsKeys id → ⊥) → P Flushing) → AllByRecursion P (changing_row store now id words).records
   unfolding changing_row
   changing-all store FlushAll words short flushing = flush-all (flushing (λ keeps. keeps.0 refl)) (slice_get words 1)
   changing-all store FlushDb words short flushing = flush-all (flushing (λ keeps. keeps.1 refl)) (slice_get words 1)
-  changing-all store DelId words short flushing = dels-all store (behind_name words) (behind_name-all Q words short)
-  changing-all store Unlink words short flushing = dels-all store (behind_name words) (behind_name-all Q words short)
+  changing-all store DelId words short flushing = dels-all store (behind_name words) short
+  changing-all store Unlink words short flushing = dels-all store (behind_name words) short
   changing-all store RenameId words short flushing = two-all words (rename_row store) short (rename-all store)
   changing-all store RenameNx words short flushing = two-all words (renamenx_row store) short (renamenx-all store)
   changing-all store Expire words short flushing = two-all words (expire_row store Expire InSeconds now) short (λ key word s t. expire-all store Expire InSeconds key word s)
@@ -129,7 +134,7 @@ module _ (P : Record → Type 0) (Q : List ℕ → Type 0) (now : ℕ) (deleting
   drawn-all None = tt
   drawn-all (Some key) = tt
 
-  pub rows-all : (store : Store) (draws : ℕ) (id : CmdId) (words : List (List ℕ)) → AllByRecursion Q words → ((KeepsKeys id → ⊥) → P Flushing) → AllByRecursion P (key_row store now draws id words).records
+  pub rows-all : (store : Store) (draws : ℕ) (id : CmdId) (words : List (List ℕ)) → AllByRecursion Q (behind_name words) → ((KeepsKeys id → ⊥) → P Flushing) → AllByRecursion P (key_row store now draws id words).records
   unfolding key_row
   rows-all store draws RandomKey words short flushing = drawn-all (slice_get (finite.keys store) (drawn_place (finite.len store) draws))
   rows-all store draws id words short flushing = changing-all store id words short flushing

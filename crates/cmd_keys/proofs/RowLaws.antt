@@ -1,5 +1,5 @@
 -- What renaming and expiring leave, key by key.
-use Rattle.std.proofs.Common.{◌≡◌, ◌≢◌, ℕ, ◌+◌, ◌-◌, ◌*◌, ◌/◌, ◌<◌, ◌≤◌, ◌^◌, Bool, true, false, cond, ℤ, pos, negsuc, List, [], ◌∷◌, Option, Some, None, option_and_then, Result, Ok, Err, refl, sym, ap, subst, ◌∙◌, arith}
+use Rattle.std.proofs.Common.{◌≡◌, ◌≢◌, ℕ, ◌+◌, ◌-◌, ◌*◌, ◌/◌, ◌<◌, ◌≤◌, ◌^◌, Bool, true, false, cond, ℤ, pos, negsuc, List, [], ◌∷◌, Option, Some, None, option_and_then, Ok, Err, refl, sym, ap, subst, ◌∙◌, arith}
 use Rattle.std.proofs.lemmas.Bool.{lt-ltb, le-leb, lt-leb}
 use Rattle.std.specs.Option.{is_some}
 use Rattle.std.specs.FinMap as finite
@@ -21,7 +21,7 @@ use Rattle.cmd_rows.specs.Outcomes.{Outcome, ok, answers, does, refused, with_fo
 use Rattle.cmd_keys.specs.declared.expiring.Asked.{Asked}
 use Rattle.cmd_keys.specs.declared.expiring.Asked.TheVariants.{MillisLeft, SecondsLeft}
 use Rattle.cmd_keys.specs.KeyRows.{is_there, rename_row, renamenx_row}
-use Rattle.cmd_keys.specs.DeadlineRows.{expire_row, persist_row, deadline_row, told_in, told_of, told}
+use Rattle.cmd_keys.specs.DeadlineRows.{expire_by, expire_row, persist_row, deadline_row, told_in, told_of, told}
 use Rattle.cmd_keys.specs.Laws.{left_by}
 
 module _ (store : Store) (from to : List ℕ) where
@@ -127,14 +127,19 @@ module _ (store : Store) (command : CmdId) (kind : Expiry) (now : ℕ) (key word
   expire_before m entry read time fits there =
       expire_leaves store command kind now key word n (negsuc m) entry read time (lt-ltb m (2 ^ 63) fits) there (Del key) None refl (removed store key)
 
-found-same : {X : Type 0} (store : Store) (found : Result X Refusal) (row : X → Outcome) → ((x : X) → left_by store (row x) ≡ store) → left_by store (with_found found row) ≡ store
-found-same store (Ok x) row h = h x
-found-same store (Err why) row h = refl
+-- an absent key, and a time that is refused
+pub expire_answers_0 : (store : Store) (command : CmdId) (kind : Expiry) (now : ℕ) (key word : List ℕ) (n at : ℤ) → number word ≡ Ok n → expire_time command kind now n ≡ Ok at → finite.get store key ≡ None
+    → expire_row store command kind now key word ≡ answers (Int (pos 0))
+expire_answers_0 store command kind now key word n at read timed absent =
+    ap (λ r. with_found r (expire_by store command kind now key)) read
+    ∙ ap (λ r. with_found r (λ z. cond (is_there store key) (does (Int (pos 1)) (expire_at key now z ∷ [])) (answers (Int (pos 0))))) timed
+    ∙ ap (λ t. cond t (does (Int (pos 1)) (expire_at key now at ∷ [])) (answers (Int (pos 0)))) (ap is_some absent)
 
-pub expire_absent : (store : Store) (command : CmdId) (kind : Expiry) (now : ℕ) (key word : List ℕ) → finite.get store key ≡ None → left_by store (expire_row store command kind now key word) ≡ store
-expire_absent store command kind now key word absent =
-    found-same store (number word) _ (λ n. found-same store (expire_time command kind now n) _ (λ at.
-    ap (λ t. left_by store (cond t (does (Int (pos 1)) (expire_at key now at ∷ [])) (answers (Int (pos 0))))) (ap is_some absent)))
+pub expire_refuses : (store : Store) (command : CmdId) (kind : Expiry) (now : ℕ) (key word : List ℕ) (n : ℤ) (why : Refusal) → number word ≡ Ok n → expire_time command kind now n ≡ Err why
+    → expire_row store command kind now key word ≡ refused why
+expire_refuses store command kind now key word n why read out =
+    ap (λ r. with_found r (expire_by store command kind now key)) read
+    ∙ ap (λ r. with_found r (λ z. cond (is_there store key) (does (Int (pos 1)) (expire_at key now z ∷ [])) (answers (Int (pos 0))))) out
 
 persist_row-had : (store : Store) (key : List ℕ) (entry : Entry) (at : ℕ) → finite.get store key ≡ Some entry → entry.deadline ≡ Some at → persist_row store key ≡ does (Int (pos 1)) (Persist key ∷ [])
 persist_row-had store key entry at there due =

@@ -11,7 +11,7 @@ use Rattle.cmd_rows.specs.Times.{expire_time, expire_at}
 use Rattle.cmd_rows.specs.Outcomes.{word_at}
 use Rattle.cmd_rows.specs.Bounds.{IsTimelyWithin, AreTimelyWithin}
 use Rattle.cmd_keys.specs.Rows.{key_row}
-use Rattle.cmd_keys.proofs.Records.{word_at-all, expire_time-within, rows-all}
+use Rattle.cmd_keys.proofs.Records.{word_at-all, behind_name-all, expire_time-within, rows-all}
 
 expire_at-within : (now : ℕ) (key : List ℕ) (at : ℤ) → IsShort key → is_within_64 at ≡ true → IsTimelyWithin now (expire_at key now at)
 expire_at-within now key (negsuc n) short within = (short, tt)
@@ -31,4 +31,4 @@ copy-short words place word copy short found same = subst IsShort (sym same) (wo
 
 pub rows-within : (store : Store) (now draws : ℕ) (id : CmdId) (words : List (List ℕ)) → AllByRecursion IsShort words → AreTimelyWithin now (key_row store now draws id words).records
 rows-within store now draws id words short =
-    rows-all (IsTimelyWithin now) IsShort now (λ key s. (s, tt)) (λ key s. (s, tt)) (λ from to s t. ((s, t), tt)) (expire_at-within now) store draws id words short (λ flushed. (tt, tt))
+    rows-all (IsTimelyWithin now) IsShort now (λ key s. (s, tt)) (λ key s. (s, tt)) (λ from to s t. ((s, t), tt)) (expire_at-within now) store draws id words (behind_name-all IsShort words short) (λ flushed. (tt, tt))

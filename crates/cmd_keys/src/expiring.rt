@@ -1,8 +1,8 @@
-ghost use Rattle.std.specs.Prelude.{◌≡◌, ◌<◌, ◌^◌, pos, is_some, option_copied, IfSome};
+ghost use Rattle.std.specs.Prelude.{◌≡◌, ◌<◌, ◌^◌, is_some, IfSome};
 ghost use Rattle.std.specs.List.{AllByRecursion};
-ghost use Rattle.ks_space.specs.Store.{IsShort, IsKept, IsDeadline, deadline_at};
+ghost use Rattle.ks_space.specs.Store.{IsShort, IsDeadline, deadline_at};
 ghost use Rattle.cmd_rows.specs.Deeds.{Did, IfAnswered};
-ghost use Rattle.cmd_keys.specs.DeadlineRows.{expire_by, expire_row, persist_row, seconds, told, told_of, told_in, deadline_row};
+ghost use Rattle.cmd_keys.specs.DeadlineRows.{expire_by, expire_row, persist_row, seconds, told, told_of, deadline_row};
 ghost use Rattle.cmd_keys.specs.Rows.{with_word, with_two_words, Tells};
 
 use crate::words::is_there;

@@ -1,4 +1,4 @@
-ghost use Rattle.std.specs.Prelude.{◌≡◌, ◌≢◌, ◌↔◌, ◌+◌, ◌-◌, ◌*◌, ◌<◌, ◌≤◌, ◌^◌, ℕ, ℤ, pos, negsuc, ◌≤ℤ◌, List, [], ◌∷◌, length, Some, None, Ok, IsSome, Contains};
+ghost use Rattle.std.specs.Prelude.{◌≡◌, ◌≢◌, ◌↔◌, ◌+◌, ◌-◌, ◌*◌, ◌<◌, ◌≤◌, ◌^◌, ℕ, ℤ, pos, negsuc, List, Some, None, Ok, Err, IsSome, Contains};
 ghost use Rattle.std.specs.List.{AllByRecursion};
 ghost use Rattle.std.specs.List.Sorted.{IsStrictlySortedBy};
 ghost use Rattle.std.specs.FinMap as finite;
@@ -6,21 +6,21 @@ ghost use Rattle.resp_reply.specs.declared.reply.Reply.{Reply};
 ghost use Rattle.ks_space.specs.declared.entry.Entry.{Entry};
 ghost use Rattle.ks_space.specs.Store.{Store, IsStore, IsShort, bytes_cmp, deadline_at};
 ghost use Rattle.ks_space.specs.Purge.{IsTimely};
-ghost use Rattle.fx_record.specs.Records.{applied, ChangesOnly, Moves};
+ghost use Rattle.fx_record.specs.Records.{ChangesOnly, Moves};
 ghost use Rattle.cmd_args.specs.declared.commands.CmdId.{CmdId};
 ghost use Rattle.cmd_args.specs.declared.refusal.Refusal.{Refusal};
 ghost use Rattle.cmd_glob.specs.Patterns.{parts_of};
 ghost use Rattle.cmd_glob.specs.Matching.{Matches};
 ghost use Rattle.cmd_rows.specs.declared.times.Expiry.{Expiry};
 ghost use Rattle.cmd_rows.specs.Numbers.{number};
-ghost use Rattle.cmd_rows.specs.Times.{moment};
+ghost use Rattle.cmd_rows.specs.Times.{moment, expire_time};
 ghost use Rattle.cmd_rows.specs.Outcomes.{ok, answers, refused};
 ghost use Rattle.cmd_rows.specs.Bounds.{AreTimelyWithin};
 ghost use Rattle.cmd_keys.specs.declared.expiring.Asked.{Asked};
 ghost use Rattle.cmd_keys.specs.ServerRows.{flush_row};
 ghost use Rattle.cmd_keys.specs.KeyRows.{del_row, keys_matching, randomkey_row, rename_row, renamenx_row};
 ghost use Rattle.cmd_keys.specs.DeadlineRows.{expire_row, persist_row, deadline_row};
-ghost use Rattle.cmd_keys.specs.Rows.{key_row};
+ghost use Rattle.cmd_keys.specs.Rows.{behind_name, key_row};
 ghost use Rattle.cmd_keys.specs.Laws.{left_by, KeepsKeys};
 
 /// The records of a command are within the limits of a store, and give no deadline that is past.
@@ -50,8 +50,8 @@ pub fn renamenx_moves_a_key_to_a_new_name()
 {}
 
 /// EXPIRE and its kin: a key that exists has the deadline that its number means, and its value as it was; where that is at or
-/// below the time, the key does not exist any longer. They answer 1, or 0 where the key does not exist. Every other key is as
-/// it was.
+/// below the time, the key does not exist any longer, and every other key is as it was. They answer 1, or 0 where the key does
+/// not exist. A time past 64 bits is refused, also where the key does not exist.
 pub fn expire_gives_a_key_its_deadline()
     ensures later { (store : Store) (command : CmdId) (kind : Expiry) (now : ℕ) (key word : List ℕ) (n : ℤ) (at : ℕ) (entry : Entry)
         → number word ≡ Ok n → moment kind now n ≡ pos at → at < 2 ^ 63 → now < at → finite.get store key ≡ Some entry
@@ -65,8 +65,11 @@ pub fn expire_gives_a_key_its_deadline()
         → number word ≡ Ok n → moment kind now n ≡ negsuc m → m < 2 ^ 63 → finite.get store key ≡ Some entry
         → ((expire_row store command kind now key word).reply ≡ Reply.Int (pos 1))
         × ChangesOnly store (left_by store (expire_row store command kind now key word)) key None }
-    ensures absent { (store : Store) (command : CmdId) (kind : Expiry) (now : ℕ) (key word : List ℕ)
-        → finite.get store key ≡ None → left_by store (expire_row store command kind now key word) ≡ store }
+    ensures absent { (store : Store) (command : CmdId) (kind : Expiry) (now : ℕ) (key word : List ℕ) (n at : ℤ)
+        → number word ≡ Ok n → expire_time command kind now n ≡ Ok at → finite.get store key ≡ None
+        → expire_row store command kind now key word ≡ answers (Reply.Int (pos 0)) }
+    ensures out_of_range { (store : Store) (command : CmdId) (kind : Expiry) (now : ℕ) (key word : List ℕ) (n : ℤ) (why : Refusal)
+        → number word ≡ Ok n → expire_time command kind now n ≡ Err why → expire_row store command kind now key word ≡ refused why }
 {}
 
 /// PERSIST: a key that has a deadline has none any longer, and its value as it was, and PERSIST answers 1; else nothing is done,
@@ -121,8 +124,8 @@ pub fn randomkey_gives_a_key()
     ensures none { (draws : ℕ) → randomkey_row finite.empty draws ≡ answers Reply.NullBulk }
 {}
 
-/// A key that the words do not name keeps its value and its deadline, whatever the command, other than FLUSHALL and FLUSHDB.
+/// A key that the words behind the name do not name keeps its value and its deadline, whatever the command, other than FLUSHALL and FLUSHDB.
 pub fn other_keys_are_as_they_were()
-    ensures { (store : Store) (now draws : ℕ) (id : CmdId) (words : List (List ℕ)) (key : List ℕ) → KeepsKeys id → ¬ (Contains words key)
+    ensures { (store : Store) (now draws : ℕ) (id : CmdId) (words : List (List ℕ)) (key : List ℕ) → KeepsKeys id → ¬ (Contains (behind_name words) key)
         → finite.get (left_by store (key_row store now draws id words)) key ≡ finite.get store key }
 {}

@@ -1,4 +1,3 @@
-ghost use Rattle.std.specs.Prelude.{◌≡◌};
 ghost use Rattle.std.specs.List.{AllByRecursion};
 ghost use Rattle.ks_space.specs.Store.{IsShort};
 ghost use Rattle.cmd_rows.specs.Deeds.{Did, IfAnswered};

@@ -4,4 +4,5 @@ use Rattle.cl_core.proofs.laws.turns_keep_validity.Goals as goal
 pub returns : goal.returns
 returns c =
     let law = c.reading_is_the_grammar.ensures in
-    record { beginning = beginning_valid; turns = step_valid law.left law.nothing law.reads; time = time_rises }
+    let kept = c.commands_keep_the_world.ensures in
+    record { beginning = beginning_valid kept.empty; turns = step_valid law.left law.nothing kept.begun kept.command; time = time_rises }

@@ -1,7 +1,6 @@
 use Rattle.std.proofs.Common.{◌∙◌, sym}
 use Rattle.std.proofs.lemmas.Result.{on_ok_weaker}
 use Rattle.cl_core.proofs.RunLaws.{none_at, open_at, bad_at}
-use Rattle.cl_core.proofs.WithinLaws.{open_within, broken_within}
 use Rattle.cl_core.proofs.server.Server.take_piece.Goals as goal
 
 pub returns-in_default : goal.returns-in_default
@@ -21,11 +20,3 @@ returns-in-Broken c =
     (bad_at c.args.client _ c.args.self.now c.take.new.self c.args.outs.now c.args.groups.now c.self.view_is c.args.bytes.now c.in-Some.reader c.in-Broken.kind c.in-Broken.commands _ c.take.ensures.others
     (sym c.in-Some.is ∙ c.take.ensures.client) (rw (c.in-Broken.is, c.as_slice.ensures.value) at c.in_ok-reader.ensures))
     c.take_bad.ensures
-
-pub take_good-requires : goal.take_good-requires
-take_good-requires c =
-    open_within _ _ c.in-Open.reader c.in-Open.commands (c.reading_is_the_grammar.ensures.reads _) (rw c.in-Open.is at c.in_ok-reader.ensures)
-
-pub take_bad-requires : goal.take_bad-requires
-take_bad-requires c =
-    broken_within _ _ c.in-Broken.kind c.in-Broken.commands (c.reading_is_the_grammar.ensures.reads _) (rw c.in-Broken.is at c.in_ok-reader.ensures)
