@@ -7,17 +7,19 @@ use Rattle.rs_outside.specs.declared.status.Status.{Status}
 use Rattle.rs_outside.specs.declared.status.Status.TheVariants.{Done, LogFault, WireFault, TurnsSpent, NoMemory}
 use Rattle.srv_loop.specs.declared.serving.Served.{Served}
 use Rattle.srv_loop.specs.declared.serving.Served.TheVariants.{ToEnd, Spent}
-use Rattle.cl_core.specs.Machine.{State, run_from, step}
+use Rattle.cl_core.specs.Machine.{State, beginning, run_from, step}
 use Rattle.srv_loop.specs.Runs.{logged_in}
+use Rattle.srv_loop.specs.Replaying.{ReplaysTo}
 use Rattle.srv_loop.specs.Taking.{CutsTurn}
 
 -- These turns came and were taken one by one: the server is in the state of the reference machine after them, the log
--- took their log bytes, and their rows were sent.
+-- took their log bytes, and their rows were sent. Where it began as a new server does, these log bytes replayed give its store.
 pub record Serves (turns : List Turn) (server server' : State) (coming coming' : Option (List Turn)) (log log' : Option (List ℕ)) (sent sent' : Option (List OutRow)) : Type 0 where
   pub came : coming ≡ items_then turns coming'
   pub server_is : server' ≡ (run_from server turns).state
   pub logged : log' ≡ known_then log (logged_in (run_from server turns))
   pub rows : sent' ≡ known_then sent (run_from server turns).rows
+  pub replays : server ≡ beginning → ReplaysTo (logged_in (run_from server turns)) server'.store
 
 -- these turns, and the last one where there is one
 abbrev pub with_last : List Turn → Option Turn → List Turn

@@ -10,6 +10,7 @@ ghost use Rattle.srv_loop.specs.Taking.{TookPrefix, CutsTurn};
 ghost use Rattle.srv_loop.specs.Serving.{Serves, CutsServe, IsServeStatus, TakesNext, EndsServed};
 ghost use Rattle.srv_loop.specs.Stops.{Stops, Never};
 
+use crate::laws::log_replays;
 use crate::writing::write_log;
 use cl_core::Server;
 use fx_log::{Groups, write_group};
@@ -92,6 +93,7 @@ fn serve_turns<W: Wire, L: Log>(
     ensures wire_later { W.faults wire.old ≤ W.faults wire.new }
     ensures log_later { L.faults log.old ≤ L.faults log.new }
 {
+    log_replays();
     for _ in 0..turns {
         let Some(turn) = next_turn(wire)? else {
             return Ok(Served::ToEnd);
