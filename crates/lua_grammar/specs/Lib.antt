@@ -1,0 +1,9 @@
+pub mod Operators
+pub mod Words
+pub mod Positions
+pub mod Contexts
+pub mod Things
+pub mod Parts
+pub mod Grammar
+pub mod Trees
+pub mod Stops

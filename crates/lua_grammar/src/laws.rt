@@ -1,0 +1,16 @@
+ghost use Rattle.std.specs.Prelude.{◌≡◌, ℕ, List, [], ◌∷◌, ◌++◌};
+ghost use Rattle.lua_grammar.specs.declared.kinds.SyntaxKind.{SyntaxKind};
+ghost use Rattle.lua_grammar.specs.declared.words.Word.{Word};
+ghost use Rattle.lua_grammar.specs.declared.statements.Stat.{Stat};
+ghost use Rattle.lua_grammar.specs.declared.statements.Body.{Body};
+ghost use Rattle.lua_grammar.specs.Contexts.{every_rule};
+ghost use Rattle.lua_grammar.specs.Trees.{IsTree};
+ghost use Rattle.lua_grammar.specs.Stops.{Begins, StopsAt};
+
+/// Words that have a tree have no stop, and each front of them begins a text.
+pub fn a_tree_or_a_stop()
+    ensures no_stop { (words : List Word) (block : List Stat) (bodies : List Body) (last_line line : ℕ) (kind : SyntaxKind)
+        → IsTree every_rule words block bodies → StopsAt words last_line line kind → ⊥ }
+    ensures front { (front back : List Word) (block : List Stat) (bodies : List Body)
+        → IsTree every_rule (front ++ back) block bodies → Begins every_rule front }
+{}
