@@ -1,5 +1,5 @@
 -- What a tree of items is seen as.
-use Rattle.std.specs.Prelude.{◌≡◌, List, [], ◌∷◌, ◌++◌, length}
+use Rattle.std.specs.Prelude.{List, [], ◌∷◌, ◌++◌, length}
 use Rattle.ks_tree.specs.Weights.{AreInBalance}
 use Rattle.ks_tree.specs.declared.tree.Root.{Root}
 use Rattle.ks_tree.specs.declared.tree.Root.TheVariants.{Empty, Full}
@@ -8,11 +8,6 @@ use Rattle.ks_tree.specs.declared.tree.Root.TheVariants.{Empty, Full}
 abbrev pub items : {T : Type 0} → Root T → List T
 items Empty = []
 items (Full node) = node.value.left ++ node.value.item ∷ node.value.right
-
--- the node's count is the number of its items
-abbrev pub IsCounted : {T : Type 0} → Root T → Type 0
-IsCounted Empty = Unit {0}
-IsCounted (Full node) = node.value.len ≡ length (node.value.left ++ node.value.item ∷ node.value.right)
 
 -- the node's sides are in balance
 abbrev pub IsBalanced : {T : Type 0} → Root T → Type 0

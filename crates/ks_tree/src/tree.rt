@@ -19,6 +19,9 @@ use std::mem;
 #[derive(Debug, Drop)]
 pub struct Tree<T> {
     root: Root<T>,
+    /// How many items it has. It stands beside the root, not in it, so that a look at a side's length does not reach for
+    /// that side's memory.
+    len: usize,
 }
 
 #[cycle(tree)]
@@ -34,23 +37,21 @@ pub struct Node<T> {
     left: Tree<T>,
     item: T,
     right: Tree<T>,
-    /// How many items the node and its sides have.
-    len: usize,
 }
 
 impl<T> Model for Tree<T> {
-    ghost use Rattle.std.specs.Prelude.{List, length};
+    ghost use Rattle.std.specs.Prelude.{◌≡◌, List, length};
     ghost use Rattle.std.specs.Coded.{coded_list};
 
     ghost Value = { List T };
 
     ghost coded = { coded_list T.code };
 
-    ghost use Rattle.ks_tree.specs.Trees.{items, IsCounted, IsBalanced};
+    ghost use Rattle.ks_tree.specs.Trees.{items, IsBalanced};
 
     ghost view = { λ t. items t.root };
 
-    ghost invariant = { λ t. IsCounted t.root × IsBalanced t.root };
+    ghost invariant = { λ t. (t.len ≡ length (items t.root)) × IsBalanced t.root };
 
     ghost size = { length };
 
@@ -65,11 +66,12 @@ fn link<T: Drop>(left: Tree<T>, mut node: Box<Node<T>>, right: Tree<T>) -> Tree<
     requires fits { length left + length right + 1 < 2 ^ 64 }
     ensures { result ≡ left ++ node.value.item ∷ right }
 {
-    node.len = left.len() + right.len() + 1;
+    let len = left.len() + right.len() + 1;
     node.left = left;
     node.right = right;
     Tree {
         root: Root::Full(node),
+        len,
     }
 }
 
@@ -122,16 +124,16 @@ impl<T> Tree<T> {
     pub fn new() -> Tree<T>
         ensures { result ≡ [] }
     {
-        Tree { root: Root::Empty }
+        Tree {
+            root: Root::Empty,
+            len: 0,
+        }
     }
 
     pub fn len(&self) -> usize
         ensures { result ≡ length self.now }
     {
-        match &self.root {
-            Root::Empty => 0,
-            Root::Full(node) => node.len,
-        }
+        self.len
     }
 
     /// How many items lie on the longest way down from the root: 0 where there is none.
@@ -173,11 +175,11 @@ impl<T> Tree<T> {
         ensures balanced { AreInBalance (length result.0) (length result.2) }
         ensures fits { length self < 2 ^ 64 }
     {
+        // Read, so that it is known to fit.
+        let _len = self.len;
         let Root::Full(mut node) = self.root else {
             unreachable!()
         };
-        // Read, so that it is known to fit.
-        let _len = node.len;
         let left = mem::replace(&mut node.left, Tree::new());
         let right = mem::replace(&mut node.right, Tree::new());
         (left, node, right)
@@ -212,7 +214,6 @@ impl<T> Node<T> {
                 left: Tree::new(),
                 item,
                 right: Tree::new(),
-                len: 1,
             },
         )
     }
@@ -270,7 +271,7 @@ impl<T: Clone + Drop> Tree<T> {
         let Root::Full(node) = &self.root else {
             return Ok(());
         };
-        if from >= to || from >= node.len {
+        if from >= to || from >= self.len {
             return Ok(());
         }
         let here = node.left.len();
@@ -293,18 +294,10 @@ impl<T: Clone + Drop> Tree<T> {
         let left = node.left.copy(alloc)?;
         let item = node.item.clone()?;
         let right = node.right.copy(alloc)?;
-        let len = node.len;
-        let copy = Box::new(
-            alloc,
-            Node {
-                left,
-                item,
-                right,
-                len,
-            },
-        )?;
+        let copy = Box::new(alloc, Node { left, item, right })?;
         Ok(Tree {
             root: Root::Full(copy),
+            len: self.len,
         })
     }
 }
