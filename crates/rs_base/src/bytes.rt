@@ -30,6 +30,15 @@ impl Bytes {
         }
     }
 
+    /// The empty string, with memory for so many bytes.
+    pub fn with_capacity(alloc: Global, capacity: usize) -> Result<Bytes, NoMemory>
+        ensures { IfOk result (λ empty. empty ≡ []) }
+    {
+        Ok(Bytes {
+            bytes: Vec::with_capacity(alloc, capacity)?,
+        })
+    }
+
     /// A copy of these bytes.
     pub fn from_slice(alloc: Global, bytes: &[u8]) -> Result<Bytes, NoMemory>
         ensures { IfOk result (λ copy. copy ≡ bytes.now) }

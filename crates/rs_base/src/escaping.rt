@@ -41,10 +41,11 @@ pub fn unescape(alloc: Global, text: &[u8]) -> Result<Option<Bytes>, NoMemory>
     ensures found { IfOk result (λ found. IfSome found (λ bytes. AreBytes bytes × (text.now ≡ spelling bytes))) }
     ensures only { (bytes : List ℕ) → AreBytes bytes → text.now ≡ spelling bytes → IfOk result (λ found. found ≡ Some bytes) }
 {
-    let mut bytes = Bytes::new(alloc);
     if text == b"\\e".as_slice() {
-        return Ok(Some(bytes));
+        return Ok(Some(Bytes::new(alloc)));
     }
+    // A spelling is at least as long as what it spells.
+    let mut bytes = Bytes::with_capacity(alloc, text.len())?;
     let mut rest = text;
     while !rest.is_empty() {
         let Some((byte, more)) = first_byte(rest) else {

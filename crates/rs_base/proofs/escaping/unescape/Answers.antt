@@ -6,7 +6,7 @@ use Rattle.rs_base.proofs.Spellings.{HasRead-start, HasRead-more, HasRead-stuck,
 use Rattle.rs_base.proofs.escaping.unescape.Goals as goal
 
 pub loop-rest-init : goal.loop-rest-init
-loop-rest-init c = rw c.new-bytes.ensures (HasRead-start c.args.text.now)
+loop-rest-init c = rw c.in_ok-bytes.ensures (HasRead-start c.args.text.now)
 
 pub returns-in_default-clause-only : goal.returns-in_default-clause-only
 returns-in_default-clause-only c = λ bytes are e.
