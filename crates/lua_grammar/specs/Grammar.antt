@@ -41,23 +41,23 @@ pub data Spelled (rules : Rules) : Context → Thing → Position → Position �
       → Spelled rules c (thing.operand 1 e) j k → at.ResumesExpression i k l → Spelled rules c (thing.expression e) i l
   -- an operand of a rank up to 6: operands of the next rank, with operators of this one between them
   operands : {c : Context} {rank : ℕ} {first : Expr} {links : List Link} {i j k : Position} → rank ≤ 6
-      → Spelled rules c (thing.operand (rank + 1) first) i j → Spelled rules c (thing.links rank links) j k → at.joint rank k ≡ None
+      → Spelled rules c (thing.operand (rank + 1) first) i j → Spelled rules c (thing.links rank links) j k
       → Spelled rules c (thing.operand rank (row first links)) i k
   -- unop exp: the operand is a level deeper. It takes in a power behind the operator, but no other binary operator
   unary : {c : Context} {by : Unary} {e : Expr} {i j k : Position} → at.sign i ≡ Some by → at.Passes i j → HasRoom rules c
       → Spelled rules (context.inner c) (thing.operand 7 e) j k → Spelled rules c (thing.operand 7 (expr.Unary by e)) i k
   power : {c : Context} {base : Expr} {links : List Link} {i j k : Position} → at.sign i ≡ None
-      → Spelled rules c (thing.simple base) i j → Spelled rules c (thing.links 7 links) j k → at.joint 7 k ≡ None
+      → Spelled rules c (thing.simple base) i j → Spelled rules c (thing.links 7 links) j k
       → Spelled rules c (thing.operand 7 (row base links)) i k
   -- behind `^` an operand may have unary operators
   unary_exponent : {c : Context} {by : Unary} {e : Expr} {i j k : Position} → at.sign i ≡ Some by → at.Passes i j → HasRoom rules c
       → Spelled rules (context.inner c) (thing.operand 7 e) j k → Spelled rules c (thing.operand 8 (expr.Unary by e)) i k
   exponent : {c : Context} {e : Expr} {i j : Position} → at.sign i ≡ None
       → Spelled rules c (thing.simple e) i j → Spelled rules c (thing.operand 8 e) i j
-  no_links : {c : Context} {rank : ℕ} {i : Position} → Spelled rules c (thing.links rank []) i i
-  more_links : {c : Context} {rank : ℕ} {links : List Link} {by : Binary} {e : Expr} {i j k l : Position}
-      → Spelled rules c (thing.links rank links) i j → at.joint rank j ≡ Some by → IsShort rules j.operators → at.PassesOperator j k
-      → Spelled rules c (thing.operand (rank + 1) e) k l → Spelled rules c (thing.links rank (links ++ link_of by e ∷ [])) i l
+  no_links : {c : Context} {rank : ℕ} {i : Position} → at.joint rank i ≡ None → Spelled rules c (thing.links rank []) i i
+  more_links : {c : Context} {rank : ℕ} {by : Binary} {e : Expr} {links : List Link} {i j k l : Position}
+      → at.joint rank i ≡ Some by → IsShort rules i.operators → at.PassesOperator i j → Spelled rules c (thing.operand (rank + 1) e) j k
+      → Spelled rules c (thing.links rank links) k l → Spelled rules c (thing.links rank (link_of by e ∷ links)) i l
   nil_value : {c : Context} {i j : Position} → Takes kind.Nil i j → Spelled rules c (thing.simple expr.Nil) i j
   false_value : {c : Context} {i j : Position} → Takes kind.False i j → Spelled rules c (thing.simple expr.False) i j
   true_value : {c : Context} {i j : Position} → Takes kind.True i j → Spelled rules c (thing.simple expr.True) i j
@@ -73,18 +73,17 @@ pub data Spelled (rules : Rules) : Context → Thing → Position → Position �
       → Spelled rules c (thing.chain head suffixes) i j → Spelled rules c (thing.simple (suffixed head suffixes)) i j
   -- ---- names and parentheses, and what goes on with them
 
-  -- all goes on with a head that can: a `(` behind it never begins a statement
   chain : {c : Context} {head : Expr} {suffixes : List Suffix} {i j k : Position}
-      → Spelled rules c (thing.head head) i j → Spelled rules c (thing.suffixes suffixes) j k → begins_suffix (at.kind k) ≡ false
-      → Spelled rules c (thing.chain head suffixes) i k
+      → Spelled rules c (thing.head head) i j → Spelled rules c (thing.suffixes suffixes) j k → Spelled rules c (thing.chain head suffixes) i k
   name : {c : Context} {n : Name} {i j : Position} → TakesName n i j → Spelled rules c (thing.head (expr.Name n)) i j
   -- ( exp )
   parenthesis : {c : Context} {e : Expr} {i j k l : Position} → Takes kind.LeftParen i j → HasRoom rules c
       → Spelled rules (context.inner c) (thing.expression e) j k → Takes kind.RightParen k l → Spelled rules c (thing.head (expr.Paren e)) i l
-  no_suffixes : {c : Context} {i : Position} → Spelled rules c (thing.suffixes []) i i
-  more_suffixes : {c : Context} {suffixes : List Suffix} {suffix : Suffix} {i j k l : Position}
-      → Spelled rules c (thing.suffixes suffixes) i j → IsShort rules j.suffixes → at.CountsSuffix j k → Spelled rules c (thing.suffix suffix) k l
-      → Spelled rules c (thing.suffixes (suffixes ++ suffix ∷ [])) i l
+  -- all goes on with a head that can: a `(` behind it never begins a statement
+  no_suffixes : {c : Context} {i : Position} → begins_suffix (at.kind i) ≡ false → Spelled rules c (thing.suffixes []) i i
+  more_suffixes : {c : Context} {suffix : Suffix} {suffixes : List Suffix} {i j k l : Position} → IsShort rules i.suffixes → at.CountsSuffix i j
+      → Spelled rules c (thing.suffix suffix) j k → Spelled rules c (thing.suffixes suffixes) k l
+      → Spelled rules c (thing.suffixes (suffix ∷ suffixes)) i l
   -- . Name
   member : {c : Context} {n : Name} {i j k : Position} → Takes kind.Dot i j → TakesName n j k
       → Spelled rules c (thing.suffix (suffix_of.Key (key.Field n))) i k
@@ -107,25 +106,20 @@ pub data Spelled (rules : Rules) : Context → Thing → Position → Position �
   text_argument : {c : Context} {number : ℕ} {i j : Position} → TakesText number i j → Spelled rules c (thing.arguments (expr.Text number ∷ [])) i j
   -- ---- lists of expressions, and table constructors
 
-  one_expression : {c : Context} {e : Expr} {i j : Position}
-      → Spelled rules c (thing.expression e) i j → Spelled rules c (thing.expressions (e ∷ [])) i j
-  more_expressions : {c : Context} {es : List Expr} {e : Expr} {i j k l : Position}
-      → Spelled rules c (thing.expressions es) i j → Takes kind.Comma j k → Spelled rules c (thing.expression e) k l
-      → Spelled rules c (thing.expressions (es ++ e ∷ [])) i l
-  list : {c : Context} {es : List Expr} {i j : Position}
-      → Spelled rules c (thing.expressions es) i j → SeesNot kind.Comma j → Spelled rules c (thing.list es) i j
+  last_expression : {c : Context} {e : Expr} {i j : Position}
+      → Spelled rules c (thing.expression e) i j → SeesNot kind.Comma j → Spelled rules c (thing.list (e ∷ [])) i j
+  more_expressions : {c : Context} {e : Expr} {es : List Expr} {i j k l : Position}
+      → Spelled rules c (thing.expression e) i j → Takes kind.Comma j k → Spelled rules c (thing.list es) k l
+      → Spelled rules c (thing.list (e ∷ es)) i l
   -- { [field {sep field} [sep]] }
   constructor : {c : Context} {fields : List Field} {i j k l : Position} → Takes kind.LeftBrace i j → HasRoom rules c
       → Spelled rules (context.inner c) (thing.fields fields) j k → Takes kind.RightBrace k l → Spelled rules c (thing.constructor fields) i l
-  separated_fields : {c : Context} {fields : List Field} {i j : Position}
-      → Spelled rules c (thing.separated fields) i j → Sees kind.RightBrace j → Spelled rules c (thing.fields fields) i j
-  last_field : {c : Context} {fields : List Field} {f : Field} {i j k : Position}
-      → Spelled rules c (thing.separated fields) i j → SeesNot kind.RightBrace j → Spelled rules c (thing.field f) j k
-      → Spelled rules c (thing.fields (fields ++ f ∷ [])) i k
-  no_fields : {c : Context} {i : Position} → Spelled rules c (thing.separated []) i i
-  more_fields : {c : Context} {fields : List Field} {f : Field} {i j k l : Position}
-      → Spelled rules c (thing.separated fields) i j → SeesNot kind.RightBrace j → Spelled rules c (thing.field f) j k → at.is_separator (at.kind k) ≡ true → at.Passes k l
-      → Spelled rules c (thing.separated (fields ++ f ∷ [])) i l
+  no_fields : {c : Context} {i : Position} → Sees kind.RightBrace i → Spelled rules c (thing.fields []) i i
+  last_field : {c : Context} {f : Field} {i j : Position} → SeesNot kind.RightBrace i
+      → Spelled rules c (thing.field f) i j → at.is_separator (at.kind j) ≡ false → Spelled rules c (thing.fields (f ∷ [])) i j
+  more_fields : {c : Context} {f : Field} {fields : List Field} {i j k l : Position} → SeesNot kind.RightBrace i
+      → Spelled rules c (thing.field f) i j → at.is_separator (at.kind j) ≡ true → at.Passes j k → Spelled rules c (thing.fields fields) k l
+      → Spelled rules c (thing.fields (f ∷ fields)) i l
   -- [ exp ] = exp
   keyed : {c : Context} {k e : Expr} {i j l m n o : Position} → Takes kind.LeftBracket i j → Spelled rules c (thing.expression k) j l
       → Takes kind.RightBracket l m → Takes kind.Assign m n → Spelled rules c (thing.expression e) n o
@@ -145,24 +139,18 @@ pub data Spelled (rules : Rules) : Context → Thing → Position → Position �
       → Spelled rules c (thing.function_body line method number) i p
   no_parameters : {c : Context} {i : Position} → Sees kind.RightParen i → Spelled rules c (thing.parameters [] false) i i
   only_varargs : {c : Context} {i j : Position} → Takes kind.Dots i j → Spelled rules c (thing.parameters [] true) i j
-  only_names : {c : Context} {names : List Name} {i j : Position}
-      → Spelled rules c (thing.names names) i j → SeesNot kind.Comma j → Spelled rules c (thing.parameters names false) i j
-  names_and_varargs : {c : Context} {names : List Name} {i j k l : Position}
-      → Spelled rules c (thing.names names) i j → Takes kind.Comma j k → Takes kind.Dots k l → Spelled rules c (thing.parameters names true) i l
-  one_name : {c : Context} {n : Name} {i j : Position} → TakesName n i j → Spelled rules c (thing.names (n ∷ [])) i j
-  more_names : {c : Context} {names : List Name} {n : Name} {i j k l : Position}
-      → Spelled rules c (thing.names names) i j → Takes kind.Comma j k → TakesName n k l → Spelled rules c (thing.names (names ++ n ∷ [])) i l
+  last_parameter : {c : Context} {n : Name} {i j : Position} → TakesName n i j → SeesNot kind.Comma j
+      → Spelled rules c (thing.parameters (n ∷ []) false) i j
+  more_parameters : {c : Context} {n : Name} {names : List Name} {varargs : Bool} {i j k l : Position} → TakesName n i j → Takes kind.Comma j k
+      → SeesNot kind.RightParen k → Spelled rules c (thing.parameters names varargs) k l
+      → Spelled rules c (thing.parameters (n ∷ names) varargs) i l
   -- ---- blocks
 
-  block : {c : Context} {stats : List Stat} {i j : Position}
-      → Spelled rules c (thing.statements stats) i j → ends_block (at.kind j) ≡ true → Spelled rules c (thing.block stats) i j
-  block_with_last : {c : Context} {stats : List Stat} {last : Stat} {i j k : Position}
-      → Spelled rules c (thing.statements stats) i j → Spelled rules c (thing.last last) j k → ends_block (at.kind k) ≡ true
-      → Spelled rules c (thing.block (stats ++ last ∷ [])) i k
-  no_statements : {c : Context} {i : Position} → Spelled rules c (thing.statements []) i i
-  more_statements : {c : Context} {stats : List Stat} {stat : Stat} {i j k : Position}
-      → Spelled rules c (thing.statements stats) i j → Spelled rules c (thing.statement stat) j k
-      → Spelled rules c (thing.statements (stats ++ stat ∷ [])) i k
+  no_statements : {c : Context} {i : Position} → ends_block (at.kind i) ≡ true → Spelled rules c (thing.block []) i i
+  last_statement : {c : Context} {last : Stat} {i j : Position}
+      → Spelled rules c (thing.last last) i j → ends_block (at.kind j) ≡ true → Spelled rules c (thing.block (last ∷ [])) i j
+  more_statements : {c : Context} {stat : Stat} {stats : List Stat} {i j k : Position}
+      → Spelled rules c (thing.statement stat) i j → Spelled rules c (thing.block stats) j k → Spelled rules c (thing.block (stat ∷ stats)) i k
   -- stat [;] and last [;]: the line is that of the first word
   statement : {c : Context} {line : ℕ} {deed : Deed} {i j k : Position} → line ≡ at.line i
       → Spelled rules c (thing.deed deed) i j → at.PassesSemicolon j k → Spelled rules c (thing.statement (stat_of line deed)) i k
@@ -183,14 +171,13 @@ pub data Spelled (rules : Rules) : Context → Thing → Position → Position �
   repeat_loop : {c : Context} {e : Expr} {block : List Stat} {i j k l m : Position} → Takes kind.Repeat i j → HasRoom rules c
       → Spelled rules (context.looped c) (thing.block block) j k → Takes kind.Until k l → Spelled rules c (thing.expression e) l m
       → Spelled rules c (thing.deed (deed_of.Repeat block e)) i m
-  if_statement : {c : Context} {branches : List Branch} {block : List Stat} {i j k l : Position}
-      → Spelled rules c (thing.branches branches) i j → Spelled rules c (thing.otherwise block) j k → Takes kind.End k l
-      → Spelled rules c (thing.deed (deed_of.If branches block)) i l
-  first_branch : {c : Context} {branch : Branch} {i j k : Position} → Takes kind.If i j
-      → Spelled rules c (thing.branch branch) j k → Spelled rules c (thing.branches (branch ∷ [])) i k
-  more_branches : {c : Context} {branches : List Branch} {branch : Branch} {i j k l : Position}
-      → Spelled rules c (thing.branches branches) i j → Takes kind.ElseIf j k → Spelled rules c (thing.branch branch) k l
-      → Spelled rules c (thing.branches (branches ++ branch ∷ [])) i l
+  if_statement : {c : Context} {branch : Branch} {branches : List Branch} {block : List Stat} {i j k l m n : Position} → Takes kind.If i j
+      → Spelled rules c (thing.branch branch) j k → Spelled rules c (thing.branches branches) k l → Spelled rules c (thing.otherwise block) l m
+      → Takes kind.End m n → Spelled rules c (thing.deed (deed_of.If (branch ∷ branches) block)) i n
+  no_branches : {c : Context} {i : Position} → SeesNot kind.ElseIf i → Spelled rules c (thing.branches []) i i
+  more_branches : {c : Context} {branch : Branch} {branches : List Branch} {i j k l : Position} → Takes kind.ElseIf i j
+      → Spelled rules c (thing.branch branch) j k → Spelled rules c (thing.branches branches) k l
+      → Spelled rules c (thing.branches (branch ∷ branches)) i l
   -- exp then block
   branch : {c : Context} {e : Expr} {block : List Stat} {i j k l : Position}
       → Spelled rules c (thing.expression e) i j → Takes kind.Then j k → HasRoom rules c
@@ -217,7 +204,7 @@ pub data Spelled (rules : Rules) : Context → Thing → Position → Position �
       → Spelled rules (context.looped c) (thing.block block) j k → Takes kind.End k l → Spelled rules c (thing.loop_block block) i l
   -- function Name {. Name} body
   function_statement : {c : Context} {name : Name} {path : List Name} {line number : ℕ} {i j k l m : Position} → line ≡ at.line i
-      → Takes kind.Function i j → TakesName name j k → Spelled rules c (thing.path path) k l → SeesNot kind.Dot l → SeesNot kind.Colon l
+      → Takes kind.Function i j → TakesName name j k → Spelled rules c (thing.path path) k l → SeesNot kind.Colon l
       → Spelled rules c (thing.function_body line false number) l m
       → Spelled rules c (thing.deed (deed_of.Function name path number)) i m
   -- function Name {. Name} : Name body
@@ -225,17 +212,19 @@ pub data Spelled (rules : Rules) : Context → Thing → Position → Position �
       → Takes kind.Function i j → TakesName name j k → Spelled rules c (thing.path path) k l → Takes kind.Colon l m → TakesName last m n
       → Spelled rules c (thing.function_body line true number) n o
       → Spelled rules c (thing.deed (deed_of.Function name (path ++ last ∷ []) number)) i o
-  no_path : {c : Context} {i : Position} → Spelled rules c (thing.path []) i i
-  more_path : {c : Context} {path : List Name} {n : Name} {i j k l : Position}
-      → Spelled rules c (thing.path path) i j → Takes kind.Dot j k → TakesName n k l → Spelled rules c (thing.path (path ++ n ∷ [])) i l
+  no_path : {c : Context} {i : Position} → SeesNot kind.Dot i → Spelled rules c (thing.path []) i i
+  more_path : {c : Context} {n : Name} {path : List Name} {i j k l : Position} → Takes kind.Dot i j → TakesName n j k
+      → Spelled rules c (thing.path path) k l → Spelled rules c (thing.path (n ∷ path)) i l
   -- local function Name body
   local_function : {c : Context} {name : Name} {line number : ℕ} {i j k l m : Position} → Takes kind.Local i j → line ≡ at.line j
       → Takes kind.Function j k → TakesName name k l → Spelled rules c (thing.function_body line false number) l m
       → Spelled rules c (thing.deed (deed_of.LocalFunction name number)) i m
   -- local names [= exps]
   local : {c : Context} {names : List Name} {es : List Expr} {i j k l : Position} → Takes kind.Local i j
-      → Spelled rules c (thing.names names) j k → SeesNot kind.Comma k → Spelled rules c (thing.values es) k l
-      → Spelled rules c (thing.deed (deed_of.Local names es)) i l
+      → Spelled rules c (thing.names names) j k → Spelled rules c (thing.values es) k l → Spelled rules c (thing.deed (deed_of.Local names es)) i l
+  one_name : {c : Context} {n : Name} {i j : Position} → TakesName n i j → SeesNot kind.Comma j → Spelled rules c (thing.names (n ∷ [])) i j
+  more_names : {c : Context} {n : Name} {names : List Name} {i j k l : Position} → TakesName n i j → Takes kind.Comma j k
+      → Spelled rules c (thing.names names) k l → Spelled rules c (thing.names (n ∷ names)) i l
   no_values : {c : Context} {i : Position} → SeesNot kind.Assign i → Spelled rules c (thing.values []) i i
   values : {c : Context} {es : List Expr} {i j k : Position} → Takes kind.Assign i j → Spelled rules c (thing.list es) j k
       → Spelled rules c (thing.values es) i k
@@ -244,10 +233,10 @@ pub data Spelled (rules : Rules) : Context → Thing → Position → Position �
       → Spelled rules c (thing.targets targets) i j → Takes kind.Assign j k → Spelled rules c (thing.list es) k l
       → Spelled rules c (thing.deed (deed_of.Assign targets es)) i l
   one_target : {c : Context} {target : Target} {i j : Position}
-      → Spelled rules c (thing.target target) i j → Spelled rules c (thing.targets (target ∷ [])) i j
-  more_targets : {c : Context} {targets : List Target} {target : Target} {i j k l : Position}
-      → Spelled rules c (thing.targets targets) i j → Takes kind.Comma j k → Spelled rules c (thing.target target) k l
-      → Spelled rules c (thing.targets (targets ++ target ∷ [])) i l
+      → Spelled rules c (thing.target target) i j → SeesNot kind.Comma j → Spelled rules c (thing.targets (target ∷ [])) i j
+  more_targets : {c : Context} {target : Target} {targets : List Target} {i j k l : Position}
+      → Spelled rules c (thing.target target) i j → Takes kind.Comma j k → Spelled rules c (thing.targets targets) k l
+      → Spelled rules c (thing.targets (target ∷ targets)) i l
   -- a target, or a call as a statement, is an expression of its own, too
   own_chain : {c : Context} {head : Expr} {suffixes : List Suffix} {i j k l : Position} → at.BeginsExpression i j
       → Spelled rules c (thing.chain head suffixes) j k → at.ResumesExpression i k l → Spelled rules c (thing.own_chain head suffixes) i l

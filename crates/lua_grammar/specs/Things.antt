@@ -16,7 +16,7 @@ pub data Thing : Type 0 where
   -- an operand of the operators below this precedence: 1 for a whole expression, 7 for a unary operator or a power, 8 for
   -- an exponent
   operand : ℕ → Expr → Thing
-  -- operators of this precedence, each with the operand behind it
+  -- all operators of this precedence that come, each with the operand behind it
   links : ℕ → List Link → Thing
   -- an operand without operators
   simple : Expr → Thing
@@ -26,25 +26,23 @@ pub data Thing : Type 0 where
   chain : Expr → List Suffix → Thing
   -- the same as an expression of its own, whose operators and suffixes are counted from 0
   own_chain : Expr → List Suffix → Thing
+  -- all that goes on with what stands before
   suffixes : List Suffix → Thing
   suffix : Suffix → Thing
   arguments : List Expr → Thing
-  -- one expression or more with commas between them; no comma follows a list
-  expressions : List Expr → Thing
+  -- one expression or more with commas between them; no comma follows
   list : List Expr → Thing
   constructor : List Field → Thing
-  -- fields, the last with or without a separator behind it; or each with one
+  -- fields, the last with or without a separator behind it
   fields : List Field → Thing
-  separated : List Field → Thing
   field : Field → Thing
-  -- names with commas between them
+  -- one name or more with commas between them; no comma follows
   names : List Name → Thing
   -- the parameters of a function, and whether `...` is the last of them
   parameters : List Name → Bool → Thing
   -- what follows the word `function`, which stands on this line, and a name; whether it is a method; the number of its body
   function_body : (line : ℕ) (method : Bool) (number : ℕ) → Thing
-  -- statements that go on; a block has all of them, up to its end
-  statements : List Stat → Thing
+  -- statements up to the end of their block
   block : List Stat → Thing
   -- a statement with the `;` behind it, if there is one, and what it does
   statement : Stat → Thing
@@ -54,6 +52,7 @@ pub data Thing : Type 0 where
   last_deed : Deed → Thing
   -- the block of a loop, with its `do` and `end`
   loop_block : List Stat → Thing
+  -- the branches of `elseif`, if there are any
   branches : List Branch → Thing
   branch : Branch → Thing
   -- the block of `else`, if there is one
@@ -66,5 +65,6 @@ pub data Thing : Type 0 where
   path : List Name → Thing
   -- the values of new locals, if there are any
   values : List Expr → Thing
+  -- one target or more with commas between them; no comma follows
   targets : List Target → Thing
   target : Target → Thing
