@@ -65,10 +65,7 @@ fn stays(space: &Space, effect: &Record) -> bool
             value,
             deadline,
         } => has_string(space, key, value, Some(*deadline)),
-        Record::SetKeeping { key, value } => {
-            let deadline = deadline_at(space, key);
-            has_string(space, key, value, deadline)
-        }
+        Record::SetKeeping { key, value } => holds_string(space, key, value),
         Record::Del { key } => is_absent(space, key),
         Record::ExpireAt { key, deadline } => has_deadline(space, key, Some(*deadline)),
         Record::Persist { key } => has_deadline(space, key, None),
@@ -89,6 +86,16 @@ fn has_string(space: &Space, key: &Bytes, value: &Bytes, deadline: Option<u64>) 
 {
     match space.get(key.as_slice()) {
         Some(entry) => is_string(entry, value, deadline),
+        None => false,
+    }
+}
+
+// Whether a key has this string, whatever its deadline.
+fn holds_string(space: &Space, key: &Bytes, value: &Bytes) -> bool
+    ensures { IsTrue result ↔ (finite.get space.now key.now ≡ Some (string_entry value.now (deadline_at space.now key.now))) }
+{
+    match space.get(key.as_slice()) {
+        Some(entry) => is_string(entry, value, entry.deadline),
         None => false,
     }
 }

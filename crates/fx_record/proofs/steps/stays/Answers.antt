@@ -1,5 +1,6 @@
-use Rattle.std.proofs.Common.{Some, None, subst, sym, ◌∙◌, ◌≡◌, ◌≢◌, ◌↔◌, IsTrue, true≢false}
+use Rattle.std.proofs.Common.{Some, None, sym, ◌∙◌, ◌≡◌, ◌≢◌, true≢false}
 use Rattle.std.specs.FinMap as finite
+use Rattle.ks_space.specs.Store.{deadline_at}
 use Rattle.fx_record.specs.Records.{string_entry}
 use Rattle.fx_record.proofs.Staying.{through, insert-stays, remove-stays, empty-stays, renamed-stays}
 use Rattle.fx_record.proofs.steps.stays.Goals as goal
@@ -14,12 +15,9 @@ returns-in-SetUntil c =
 
 pub returns-in-SetKeeping : goal.returns-in-SetKeeping
 returns-in-SetKeeping c =
-    rw c.in-SetKeeping.is
-    (subst
-    (λ deadline. IsTrue c.has_string-in-SetKeeping.result ↔ (finite.insert c.args.space.now c.in-SetKeeping.key (string_entry c.in-SetKeeping.value deadline) ≡ c.args.space.now))
-    c.deadline_at-deadline.ensures.value
-    (through c.has_string-in-SetKeeping.ensures
-    (insert-stays c.args.space.now c.in-SetKeeping.key (string_entry c.in-SetKeeping.value c.deadline_at-deadline.result))))
+    let key = c.in-SetKeeping.key in
+    let entry = string_entry c.in-SetKeeping.value (deadline_at c.args.space.now key) in
+    rw c.in-SetKeeping.is (through c.holds_string.ensures (insert-stays c.args.space.now key entry))
 
 pub returns-in-Del : goal.returns-in-Del
 returns-in-Del c = rw c.in-Del.is (through c.is_absent.ensures (remove-stays c.args.space.now c.in-Del.key))
