@@ -1,8 +1,8 @@
 -- Items that are given to an object outside piece by piece.
-use Rattle.std.proofs.Common.{◌≡◌, ℕ, List, [], ◌∷◌, ◌++◌, Option, Some, None, take, drop, inl, refl, sym, ap, ◌∙◌, append_assoc, append-nil}
+use Rattle.std.proofs.Common.{◌≡◌, ℕ, List, [], ◌∷◌, ◌++◌, Option, Some, None, take, drop, refl, sym, ap, ◌∙◌, append_assoc, append-nil}
 use Rattle.std.proofs.lemmas.List.{take-append-drop}
 use Rattle.rs_outside.specs.Known.{known_then}
-use Rattle.srv_loop.specs.Taking.{TookPrefix, CutsTurn}
+use Rattle.srv_loop.specs.Taking.{TookPrefix}
 
 pub known_then-append : {T : Type 0} (known : Option (List T)) (xs ys : List T) → known_then (known_then known xs) ys ≡ known_then known (xs ++ ys)
 known_then-append None xs ys = refl
@@ -42,13 +42,5 @@ IsWriting-end old new items rest h none = h.took ∙ ap (known_then old) (sym (a
 pub TookPrefix-writing : {T : Type 0} (old new : Option (List T)) (items rest : List T) → IsWriting old new items rest → TookPrefix old new items
 TookPrefix-writing old new items rest h = record { prefix = h.done; rest = rest; items_are = h.items_are; took = h.took }
 
-pub TookPrefix-all : {T : Type 0} (old new : Option (List T)) (items : List T) → new ≡ known_then old items → TookPrefix old new items
-TookPrefix-all old new items e = record { prefix = items; rest = []; items_are = sym (append-nil items); took = e }
-
 pub TookPrefix-none : {T : Type 0} (old new : Option (List T)) (items : List T) → new ≡ old → TookPrefix old new items
 TookPrefix-none old new items e = record { prefix = []; rest = items; items_are = refl; took = e ∙ sym (known_then-nil old) }
-
--- what a turn logged stands, and nothing was sent elsewhere
-pub CutsTurn-silent : {S T : Type 0} (bytes : List ℕ) (items : List S) (others : List T) (log log' : Option (List ℕ)) (sent sent' : Option (List S)) (out : Option (List T))
-    → CutsTurn bytes items log log' sent sent' → CutsTurn bytes others log log' out out
-CutsTurn-silent bytes items others log log' sent sent' out h = record { logged = h.logged; sent = TookPrefix-none out out others refl; order = inl refl }

@@ -8,6 +8,7 @@ pub mod Session
 pub mod Transcript
 pub mod Replaying
 pub mod Taking
+pub mod Gathering
 pub mod Stops
 pub mod Serving
 pub mod Play

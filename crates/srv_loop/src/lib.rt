@@ -2,6 +2,7 @@
 //! to the log, and then what they send goes to the wire or the transcript.
 #![tactic(auto)]
 
+mod gathering;
 mod laws;
 mod playing;
 mod serving;

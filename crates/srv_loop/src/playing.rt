@@ -11,18 +11,18 @@ ghost use Rattle.srv_loop.specs.Taking.{CutsTurn, TookPrefix};
 ghost use Rattle.srv_loop.specs.Play.{Plays, CutsPlay, StopsAnywhere, IsPlayStatus};
 ghost use Rattle.srv_loop.specs.Stops.{Stops, Never};
 
+use crate::gathering::Gathered;
 use crate::laws::log_replays;
-use crate::serving::serve_turn;
 use crate::session::{first_turn, judge};
-use crate::transcript::{put_ending, put_rows};
+use crate::transcript::put_ending;
 use crate::writing::{begin, write_out};
 use cl_core::Server;
 use rs_base::Bytes;
-use rs_outside::{Log, Sink, Status, SureWire, Turn, Turns};
+use rs_outside::{Log, Sink, Status};
 use std::alloc::Global;
 
 /// Plays a session: judges all of its lines, begins the log under `name`, takes the turns, and writes the transcript to
-/// `out`. Each turn's log bytes are written before its lines of the transcript.
+/// `out`. Each turn's log bytes are written before its lines of the transcript, those of many turns at a time.
 ///
 /// The status is `Done`; `BadInput` with the first line that is no session line, where nothing was written and no log
 /// begun; `LogFault` or `SinkFault` where that object failed; or `NoMemory`. After a fault or `NoMemory` the log has a
@@ -85,7 +85,7 @@ fn try_play<O: Sink, L: Log>(
     play_turns(alloc, session, out, log)
 }
 
-// Takes the turns of a session that was judged, and writes what they log and send.
+// Takes the turns of a session that was judged, and writes what they log and send, many turns at a time.
 fn play_turns<O: Sink, L: Log>(
     alloc: Global,
     session: &[u8],
@@ -102,6 +102,7 @@ fn play_turns<O: Sink, L: Log>(
     ensures out_later { O.faults out.old ≤ O.faults out.new }
 {
     let mut server = Server::new(alloc);
+    let mut gathered = Gathered::new(alloc);
     let mut turns = 0u64;
     let mut logged = 0u64;
     let mut rest = session;
@@ -109,38 +110,14 @@ fn play_turns<O: Sink, L: Log>(
         let Some((turn, more)) = first_turn(alloc, rest)? else {
             unreachable!();
         };
-        let bytes = play_turn(alloc, &mut server, turn, out, log)?;
+        let bytes = gathered.gather(alloc, &mut server, turn)?;
+        gathered.flush_full(alloc, out, log)?;
         logged = logged.saturating_add(bytes);
         turns += 1;
         rest = more;
     }
+    gathered.flush(alloc, out, log)?;
     write_ending(alloc, &server, turns, logged, out)
-}
-
-// Serves one turn over a wire in memory, and writes the lines of its rows. Answers the number of the log bytes.
-fn play_turn<O: Sink, L: Log>(
-    alloc: Global,
-    server: &mut Server,
-    turn: Turn,
-    out: &mut O,
-    log: &mut L,
-) -> Result<u64, Status>
-    ensures server { OnOk result (server.new ≡ (step server.old turn).state) }
-    ensures count { IfOk result (λ n. n ≡ length (logged_in (step server.old turn))) }
-    ensures logged { OnOk result (L.taken log.new ≡ known_then (L.taken log.old) (logged_in (step server.old turn))) }
-    ensures written { OnOk result (O.taken out.new ≡ known_then (O.taken out.old) (row_lines (step server.old turn).rows)) }
-    ensures stop { IfErr result (Stops Never (Rose (L.faults log.old) (L.faults log.new)) (Rose (O.faults out.old) (O.faults out.new)) ⊥) }
-    ensures names { L.begun log.new ≡ L.begun log.old }
-    ensures cut { CutsTurn (logged_in (step server.old turn)) (row_lines (step server.old turn).rows) (L.taken log.old) (L.taken log.new) (O.taken out.old) (O.taken out.new) }
-    ensures log_later { L.faults log.old ≤ L.faults log.new }
-    ensures out_later { O.faults out.old ≤ O.faults out.new }
-{
-    let mut wire = SureWire::new(alloc, Turns::new(alloc));
-    let bytes = serve_turn(alloc, server, &turn, &mut wire, log)?;
-    let mut lines = Bytes::new(alloc);
-    put_rows(wire.sent(), &mut lines)?;
-    write_out(out, lines.as_slice())?;
-    Ok(bytes)
 }
 
 // Writes the last lines of the transcript.

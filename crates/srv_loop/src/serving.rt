@@ -120,8 +120,8 @@ fn next_turn<W: Wire>(wire: &mut W) -> Result<Option<Turn>, Status>
     }
 }
 
-/// Takes one turn: its log bytes go to the log, and then its rows to the wire. Answers the number of the log bytes.
-pub fn serve_turn<W: Wire, L: Log>(
+// Takes one turn: its log bytes go to the log, and then its rows to the wire. Answers the number of the log bytes.
+fn serve_turn<W: Wire, L: Log>(
     alloc: Global,
     server: &mut Server,
     turn: &Turn,
@@ -150,8 +150,8 @@ pub fn serve_turn<W: Wire, L: Log>(
     Ok(bytes.len() as u64)
 }
 
-// Adds the bytes of groups, in order.
-fn write_groups(groups: &Groups, out: &mut Bytes) -> Result<(), NoMemory>
+/// Adds the bytes of groups, in order.
+pub fn write_groups(groups: &Groups, out: &mut Bytes) -> Result<(), NoMemory>
     ensures { OnOk result (out.new ≡ out.old ++ log_text groups.now) }
 {
     for group in groups.as_slice() {

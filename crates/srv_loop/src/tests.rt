@@ -307,13 +307,13 @@ type PlayRow = (
 );
 
 // The log is begun only behind the last good line; what failed is not called again.
-static PLAY_ROWS: [PlayRow; 11] = [
+static PLAY_ROWS: [PlayRow; 10] = [
     (
         SESSION,
         None,
         None,
         Status::Done,
-        (3, 2),
+        (2, 2),
         (TRANSCRIPT, LOGGED, true),
     ),
     (
@@ -346,14 +346,6 @@ static PLAY_ROWS: [PlayRow; 11] = [
         None,
         Status::SinkFault,
         (2, 2),
-        (b"1 send +OK\\r\\n\n", LOGGED, true),
-    ),
-    (
-        SESSION,
-        Some(2),
-        None,
-        Status::SinkFault,
-        (3, 2),
         (b"1 send +OK\\r\\n\n2 send $1\\r\\nv\\r\\n\n", LOGGED, true),
     ),
     (
@@ -462,10 +454,109 @@ fn played(alloc: Global, rows: &[PlayRow]) -> Result<usize, NoMemory> {
     Ok(rows.len())
 }
 
+// A session of SETs of `k` to as many of one letter each. Two of them are a batch, and so they are written before the third
+// is taken.
+const LETTERS: &[u8] = b"abc";
+
+const LONG: usize = 40_000;
+
+const LONG_END: &[u8] = b"end turns=4 keys=1 log=120090\nk string - ";
+
+static SET_LONG: [&[u8]; 6] = [b"*3", b"$3", b"SET", b"$1", b"k", b"$40000"];
+
+// The frame of a SET, with this for each end of a line.
+fn put_long_set(
+    alloc: Global,
+    letter: u8,
+    line_end: &[u8],
+    out: &mut Bytes,
+) -> Result<(), NoMemory> {
+    for line in &SET_LONG {
+        out.append(line)?;
+        out.append(line_end)?;
+    }
+    out.append(vec![in alloc; letter; LONG]?.as_slice())?;
+    out.append(line_end)
+}
+
+fn long_session(alloc: Global) -> Result<Bytes, NoMemory> {
+    let mut session = Bytes::from_slice(alloc, b"1 0 1 opened\n")?;
+    for letter in LETTERS {
+        session.append(b"1 0 1 piece ")?;
+        put_long_set(alloc, *letter, b"\\r\\n", &mut session)?;
+        session.append(b"\n")?;
+    }
+    Ok(session)
+}
+
+// What so many SETs log.
+fn long_log(alloc: Global, sets: usize) -> Result<Bytes, NoMemory> {
+    let mut log = Bytes::new(alloc);
+    for letter in LETTERS.iter().take(sets) {
+        put_long_set(alloc, *letter, b"\r\n", &mut log)?;
+    }
+    Ok(log)
+}
+
+// The lines of so many SETs, and the ending where it is written.
+fn long_lines(alloc: Global, sets: usize, is_ended: bool) -> Result<Bytes, NoMemory> {
+    let mut lines = Bytes::new(alloc);
+    for _ in 0..sets {
+        lines.append(b"1 send +OK\\r\\n\n")?;
+    }
+    if is_ended {
+        lines.append(LONG_END)?;
+        lines.append(vec![in alloc; b'c'; LONG]?.as_slice())?;
+        lines.append(b"\n")?;
+    }
+    Ok(lines)
+}
+
+// The call at which the output fails and that at which the log does, and then the status, how often the output and the log
+// were called, and of how many SETs the output took the lines and the log the bytes.
+type BatchRow = (Option<u64>, Option<u64>, Status, (u64, u64), (usize, usize));
+
+// Lines are only of SETs whose batch the log has whole.
+static BATCH_ROWS: [BatchRow; 6] = [
+    (None, None, Status::Done, (3, 3), (3, 3)),
+    (None, Some(1), Status::LogFault, (0, 2), (0, 0)),
+    (Some(0), None, Status::SinkFault, (1, 2), (0, 2)),
+    (None, Some(2), Status::LogFault, (1, 3), (2, 2)),
+    (Some(1), None, Status::SinkFault, (2, 3), (2, 3)),
+    (Some(2), None, Status::SinkFault, (3, 3), (3, 3)),
+];
+
+fn plays_batches(alloc: Global, session: &Bytes, row: &BatchRow) -> Result<bool, NoMemory> {
+    let mut out = MemSink::new(alloc, failing_at(alloc, row.0)?);
+    let mut log = MemLog::new(alloc, failing_at(alloc, row.1)?);
+    let status = play(alloc, session, b"x.log", &mut out, &mut log);
+    let lines = long_lines(alloc, row.4.0, row.2 == Status::Done)?;
+    let logged = long_log(alloc, row.4.1)?;
+    Ok(
+        status == row.2
+            && out.calls() == row.3.0
+            && log.calls() == row.3.1
+            && *out.taken() == lines
+            && *log.taken() == logged,
+    )
+}
+
+// How many rows from the first on are played as told.
+fn batches_played(alloc: Global, rows: &[BatchRow]) -> Result<usize, NoMemory> {
+    let session = long_session(alloc)?;
+    for (at, row) in rows.iter().enumerate() {
+        if !plays_batches(alloc, &session, row)? {
+            return Ok(at);
+        }
+    }
+    Ok(rows.len())
+}
+
 #[test]
 fn plays_sessions(rt: HostRuntime) -> Result<(), Fail> {
     let alloc = rt.alloc();
     assert_eq!(rt; played(alloc, &PLAY_ROWS)?, PLAY_ROWS.len());
     assert!(rt; plays_surely(alloc, &PLAY_ROWS[0])?);
+    assert_eq!(rt; batches_played(alloc, &BATCH_ROWS)?, BATCH_ROWS.len());
     Ok(())
 }
