@@ -17,7 +17,7 @@ use rs_base::{Bytes, NoMemory};
 use rs_outside::{Log, Outs, Sink, Status, Turn};
 use std::alloc::Global;
 
-// So many bytes are gathered before they are written: a turn writes little, and each write asks the system.
+// So many bytes are a batch. A turn alone writes little, and each write asks the system.
 const BATCH_BYTES: usize = 65_536;
 
 /// The log bytes and the lines of the transcript of turns that were taken, as long as they are not written.
@@ -60,7 +60,7 @@ impl Gathered {
         Ok((self.log.len() - before) as u64)
     }
 
-    /// Writes all that is gathered where that is much: less than [`BATCH_BYTES`] stay unwritten.
+    /// Writes all that is gathered where it is a batch. Fewer than [`BATCH_BYTES`] bytes stay unwritten.
     pub fn flush_full<O: Sink, L: Log>(
         &mut self,
         alloc: Global,
