@@ -1,13 +1,18 @@
 -- What is spelled has the parts that its next words call for.
-use Rattle.std.proofs.Common.{◌≡◌, ◌≢◌, ◌⊎◌, inl, inr, ℕ, suc, ◌+◌, ◌≤◌, Bool, true, false, List, [], ◌∷◌, Option, Some, None, refl, sym, ap, ◌∙◌, subst, arith}
+use Rattle.std.proofs.Common.{◌≡◌, ◌≢◌, ◌⊎◌, inl, inr, ℕ, suc, ◌+◌, ◌≤◌, Bool, true, false, List, [], ◌∷◌, Option, Some, None, refl, sym, ap, ◌∙◌, subst, subst₂, arith}
 use Rattle.lua_lex.specs.declared.kinds.TokenKind.{TokenKind}
 use Rattle.lua_lex.specs.declared.kinds.TokenKind.TheVariants as kind
 use Rattle.lua_grammar.specs.declared.context.Context.{Context}
+use Rattle.lua_grammar.specs.declared.operators.Unary.{Unary}
+use Rattle.lua_grammar.specs.declared.operators.Binary.{Binary}
 use Rattle.lua_grammar.specs.declared.expressions.Name.{Name}
 use Rattle.lua_grammar.specs.declared.expressions.Expr.{Expr}
 use Rattle.lua_grammar.specs.declared.expressions.Expr.TheVariants as expr
+use Rattle.lua_grammar.specs.declared.expressions.Link.{Link}
 use Rattle.lua_grammar.specs.declared.expressions.Suffix.{Suffix}
+use Rattle.lua_grammar.specs.declared.expressions.Field.{Field}
 use Rattle.lua_grammar.specs.declared.expressions.Field.TheVariants as field_of
+use Rattle.lua_grammar.specs.declared.statements.Stat.{Stat}
 use Rattle.lua_grammar.specs.declared.statements.Deed.{Deed}
 use Rattle.lua_grammar.specs.declared.statements.Deed.TheVariants as deed_of
 use Rattle.lua_grammar.specs.Words.{begins_suffix, ends_block, ends_return}
@@ -20,7 +25,7 @@ use Rattle.lua_grammar.specs.Parts.{stat_of}
 use Rattle.lua_grammar.specs.Grammar as by
 use Rattle.lua_grammar.specs.Grammar.{Spelled}
 use Rattle.lua_grammar.proofs.FirstWords.{first_word, begins_chain, begins_names, begins_table, begins_arguments, begins_expression, begins_statement, begins_last}
-use Rattle.lua_grammar.proofs.Forms.{IfIs, NamesForm, PrefixForm, SimpleForm, CallForm, SuffixForm, ChainDeedForm, DeedForm, Form}
+use Rattle.lua_grammar.proofs.Forms.{IfIs, PowerForm, ExponentForm, LinksForm, PrefixForm, SimpleForm, HeadForm, SuffixesForm, CallForm, SuffixForm, ArgumentsForm, FieldsRest, UnkeyedForm, ParametersForm, NamesForm, BlockForm, ReturnForm, LastDeedForm, ChainDeedForm, DeedForm, Form}
 
 -- ---- what is said of one position, at an equal one
 
@@ -40,7 +45,7 @@ name_at {n} {z = z} e t = subst (λ (p : Position). TakesName n p z) e t
 pub unseen_at : {k : TokenKind} {i j : Position} → j ≡ i → SeesNot k j → SeesNot k i
 unseen_at {k} e n = subst (λ (p : Position). SeesNot k p) e n
 
-ends_at : {i j : Position} {b : Bool} → j ≡ i → ends_return (at.kind j) ≡ b → ends_return (at.kind i) ≡ b
+pub ends_at : {i j : Position} {b : Bool} → j ≡ i → ends_return (at.kind j) ≡ b → ends_return (at.kind i) ≡ b
 ends_at {b = b} e h = subst (λ (p : Position). ends_return (at.kind p) ≡ b) e h
 
 -- ---- which of two forms it is
@@ -55,11 +60,11 @@ sees_not n b = (λ s. absurd (n s), λ _. b)
 pub not_first : (first : Option TokenKind → Bool) {v w : Option TokenKind} → first w ≡ true → first v ≡ false → w ≡ v → ⊥
 not_first first h n e = cc (ap first e)
 
-table_word : (w : Option TokenKind) → begins_table w ≡ true → w ≡ Some kind.LeftBrace
+pub table_word : (w : Option TokenKind) → begins_table w ≡ true → w ≡ Some kind.LeftBrace
 table_word (Some kind.LeftBrace) h = refl
 table_word w h = cc
 
-statements_go_on : (w : Option TokenKind) → begins_statement w ≡ true → ends_block w ≡ false
+pub statements_go_on : (w : Option TokenKind) → begins_statement w ≡ true → ends_block w ≡ false
 statements_go_on None h = cc
 statements_go_on (Some kind.End) h = cc
 statements_go_on (Some kind.Else) h = cc
@@ -67,12 +72,12 @@ statements_go_on (Some kind.ElseIf) h = cc
 statements_go_on (Some kind.Until) h = cc
 statements_go_on w h = refl
 
-statements_are_not_last : (w : Option TokenKind) → begins_statement w ≡ true → begins_last w ≡ false
+pub statements_are_not_last : (w : Option TokenKind) → begins_statement w ≡ true → begins_last w ≡ false
 statements_are_not_last (Some kind.Break) h = cc
 statements_are_not_last (Some kind.Return) h = cc
 statements_are_not_last w h = refl
 
-last_goes_on : (w : Option TokenKind) → begins_last w ≡ true → ends_block w ≡ false
+pub last_goes_on : (w : Option TokenKind) → begins_last w ≡ true → ends_block w ≡ false
 last_goes_on None h = cc
 last_goes_on (Some kind.End) h = cc
 last_goes_on (Some kind.Else) h = cc
@@ -100,14 +105,14 @@ deed_chain (Some kind.LeftParen) h p = p
 deed_chain w h p = cc
 
 -- behind the first of the names of a `for .. in` stands a `,` or the `in`
-no_assignment : {rules : Rules} {c : Context} {names : List Name} (i : Position) {j k : Position} → NamesForm rules c names i j
+pub no_assignment : {rules : Rules} {c : Context} {names : List Name} (i : Position) {j k : Position} → NamesForm rules c names i j
     → Takes kind.In j k → SeesNot kind.Assign (at.next i)
 no_assignment i f t s =
     let unseen : SeesNot kind.Comma (at.next i) = λ e. cc in
     let (names_are, end) = f.1.1 unseen in
     cc (ap at.kind end, t.seen)
 
-names_it : (i : Position) → Sees kind.Name i → Sees kind.Assign (at.next i) → at.names_field i ≡ true
+pub names_it : (i : Position) → Sees kind.Name i → Sees kind.Assign (at.next i) → at.names_field i ≡ true
 names_it i s t = ap (λ (w : Option TokenKind). at.is_named w (at.kind (at.next i))) s ∙ ap (at.is_named (Some kind.Name)) t
 
 pub form : {rules : Rules} {c : Context} {t : Thing} {i z : Position} → Spelled rules c t i z → Form rules c t i z
@@ -216,3 +221,99 @@ form (by.own_chain b x r) = (_, moved b.begun x, r)
 form (by.name_target x) = (_, _, x, inl (_, refl, refl, refl))
 form (by.row_target ss x e) = (_, _, x, inr (ss, _, e, refl))
 form (by.call_statement ss x e) = deed_chain _ (first_word x) (inr (_, _, ss, _, refl, x, e))
+
+-- ---- the parts, where the next word is known
+
+pub power_at : {rules : Rules} {c : Context} {e : Expr} {i z : Position} {w : Option Unary} → at.sign i ≡ w
+    → Spelled rules c (thing.operand 7 e) i z → PowerForm w rules c e i z
+power_at {rules} {c} {e} {i} {z} s x = subst (λ (w : Option Unary). PowerForm w rules c e i z) s ((form x).1 refl)
+
+pub exponent_at : {rules : Rules} {c : Context} {e : Expr} {i z : Position} {w : Option Unary} → at.sign i ≡ w
+    → Spelled rules c (thing.operand 8 e) i z → ExponentForm w rules c e i z
+exponent_at {rules} {c} {e} {i} {z} s x = subst (λ (w : Option Unary). ExponentForm w rules c e i z) s ((form x).2 refl)
+
+pub links_at : {rules : Rules} {c : Context} {rank : ℕ} {links : List Link} {i z : Position} {w : Option Binary} → at.joint rank i ≡ w
+    → Spelled rules c (thing.links rank links) i z → LinksForm w rules c rank links i z
+links_at {rules} {c} {rank} {links} {i} {z} s x = subst (λ (w : Option Binary). LinksForm w rules c rank links i z) s (form x)
+
+pub simple_at : {rules : Rules} {c : Context} {e : Expr} {i z : Position} {w : Option TokenKind} → at.kind i ≡ w
+    → Spelled rules c (thing.simple e) i z → SimpleForm w rules c e i z
+simple_at {rules} {c} {e} {i} {z} s x = subst (λ (w : Option TokenKind). SimpleForm w rules c e i z) s (form x)
+
+prefix_of : {rules : Rules} {c : Context} {e : Expr} {i z : Position} (w : Option TokenKind) → begins_chain w ≡ true
+    → SimpleForm w rules c e i z → PrefixForm rules c e i z
+prefix_of (Some kind.Name) h p = p
+prefix_of (Some kind.LeftParen) h p = p
+prefix_of w h p = cc
+
+pub prefix_at : {rules : Rules} {c : Context} {e : Expr} {i z : Position} → begins_chain (at.kind i) ≡ true
+    → Spelled rules c (thing.simple e) i z → PrefixForm rules c e i z
+prefix_at h x = prefix_of _ h (form x)
+
+pub head_at : {rules : Rules} {c : Context} {e : Expr} {i z : Position} {w : Option TokenKind} → at.kind i ≡ w
+    → Spelled rules c (thing.head e) i z → HeadForm w rules c e i z
+head_at {rules} {c} {e} {i} {z} s x = subst (λ (w : Option TokenKind). HeadForm w rules c e i z) s (form x)
+
+pub suffixes_at : {rules : Rules} {c : Context} {suffixes : List Suffix} {i z : Position} {b : Bool} → begins_suffix (at.kind i) ≡ b
+    → Spelled rules c (thing.suffixes suffixes) i z → SuffixesForm b rules c suffixes i z
+suffixes_at {rules} {c} {suffixes} {i} {z} s x = subst (λ (b : Bool). SuffixesForm b rules c suffixes i z) s (form x)
+
+pub suffix_at : {rules : Rules} {c : Context} {suffix : Suffix} {i z : Position} {w : Option TokenKind} → at.kind i ≡ w
+    → Spelled rules c (thing.suffix suffix) i z → SuffixForm w rules c suffix i z
+suffix_at {rules} {c} {suffix} {i} {z} s x = subst (λ (w : Option TokenKind). SuffixForm w rules c suffix i z) s (form x)
+
+call_of_suffix : {rules : Rules} {c : Context} {suffix : Suffix} {i z : Position} (w : Option TokenKind) → begins_arguments w ≡ true
+    → SuffixForm w rules c suffix i z → CallForm rules c suffix i z
+call_of_suffix (Some kind.LeftParen) h p = p
+call_of_suffix (Some kind.LeftBrace) h p = p
+call_of_suffix (Some kind.Text) h p = p
+call_of_suffix w h p = cc
+
+pub call_at : {rules : Rules} {c : Context} {suffix : Suffix} {i z : Position} → begins_arguments (at.kind i) ≡ true
+    → Spelled rules c (thing.suffix suffix) i z → CallForm rules c suffix i z
+call_at h x = call_of_suffix _ h (form x)
+
+pub arguments_at : {rules : Rules} {c : Context} {es : List Expr} {i z : Position} {w : Option TokenKind} → at.kind i ≡ w
+    → Spelled rules c (thing.arguments es) i z → ArgumentsForm w rules c es i z
+arguments_at {rules} {c} {es} {i} {z} s x = subst (λ (w : Option TokenKind). ArgumentsForm w rules c es i z) s (form x)
+
+pub rest_at : (rules : Rules) (c : Context) (f : Field) (fields : List Field) (z : Position) {j k : Position} {b : Bool} → j ≡ k
+    → at.is_separator (at.kind j) ≡ b → FieldsRest (at.is_separator (at.kind k)) rules c f fields k z → FieldsRest b rules c f fields k z
+rest_at rules c f fields z {k = k} to e rest =
+    let s = ap (λ (p : Position). at.is_separator (at.kind p)) (sym to) ∙ e in
+    subst (λ (b : Bool). FieldsRest b rules c f fields k z) s rest
+
+pub unkeyed_at : {rules : Rules} {c : Context} {f : Field} {i z : Position} {b : Bool} → at.names_field i ≡ b → SeesNot kind.LeftBracket i
+    → Spelled rules c (thing.field f) i z → UnkeyedForm b rules c f i z
+unkeyed_at {rules} {c} {f} {i} {z} s n x = subst (λ (b : Bool). UnkeyedForm b rules c f i z) s ((form x).1 n)
+
+pub parameters_at : {rules : Rules} {c : Context} {names : List Name} {varargs : Bool} {i z : Position} {w : Option TokenKind} → at.kind i ≡ w
+    → Spelled rules c (thing.parameters names varargs) i z → ParametersForm w rules c names varargs i z
+parameters_at {rules} {c} {names} {varargs} {i} {z} s x =
+    subst (λ (w : Option TokenKind). ParametersForm w rules c names varargs i z) s (form x)
+
+pub block_at : {rules : Rules} {c : Context} {stats : List Stat} {i z : Position} {a b : Bool} → ends_block (at.kind i) ≡ a
+    → begins_last (at.kind i) ≡ b → Spelled rules c (thing.block stats) i z → BlockForm a b rules c stats i z
+block_at {rules} {c} {stats} {i} {z} s t x = subst₂ (λ (a b : Bool). BlockForm a b rules c stats i z) s t (form x)
+
+pub last_deed_at : {rules : Rules} {c : Context} {deed : Deed} {i z : Position} {w : Option TokenKind} → at.kind i ≡ w
+    → Spelled rules c (thing.last_deed deed) i z → LastDeedForm w rules c deed i z
+last_deed_at {rules} {c} {deed} {i} {z} s x = subst (λ (w : Option TokenKind). LastDeedForm w rules c deed i z) s (form x)
+
+pub return_at : {rules : Rules} {c : Context} {deed : Deed} {i z : Position} {b : Bool} → Sees kind.Return i
+    → ends_return (at.kind (at.next i)) ≡ b → Spelled rules c (thing.last_deed deed) i z → ReturnForm b rules c deed (at.next i) z
+return_at {rules} {c} {deed} {i} {z} s e x = subst (λ (b : Bool). ReturnForm b rules c deed (at.next i) z) e (last_deed_at s x)
+
+pub deed_at : {rules : Rules} {c : Context} {deed : Deed} {i z : Position} {w : Option TokenKind} → at.kind i ≡ w
+    → Spelled rules c (thing.deed deed) i z → DeedForm w rules c deed i z
+deed_at {rules} {c} {deed} {i} {z} s x = subst (λ (w : Option TokenKind). DeedForm w rules c deed i z) s (form x)
+
+chain_deed_of : {rules : Rules} {c : Context} {deed : Deed} {i z : Position} (w : Option TokenKind) → begins_chain w ≡ true
+    → DeedForm w rules c deed i z → ChainDeedForm rules c deed i z
+chain_deed_of (Some kind.Name) h p = p
+chain_deed_of (Some kind.LeftParen) h p = p
+chain_deed_of w h p = cc
+
+pub chain_deed_at : {rules : Rules} {c : Context} {deed : Deed} {i z : Position} → begins_chain (at.kind i) ≡ true
+    → Spelled rules c (thing.deed deed) i z → ChainDeedForm rules c deed i z
+chain_deed_at h x = chain_deed_of _ h (form x)

@@ -2,3 +2,9 @@ pub mod FirstWords
 pub mod Forms
 pub mod Inversions
 pub mod Ends
+pub mod Unique
+pub mod OnceExpressions
+pub mod OnceLists
+pub mod OnceStatements
+pub mod OnceTargets
+pub mod Once
