@@ -1,5 +1,5 @@
 -- What two lists or two trees that are equal have in common.
-use Rattle.std.proofs.Common.{◌≡◌, List, [], ◌∷◌, ◌++◌, refl, sym, ap, ap₂, ◌∙◌, subst}
+use Rattle.std.proofs.Common.{◌≡◌, List, [], ◌∷◌, ◌++◌, refl, sym, ap, ap₂, ◌∙◌}
 use Rattle.std.proofs.lemmas.List.{same_from_push}
 use Rattle.lua_grammar.specs.declared.expressions.Name.{Name}
 use Rattle.lua_grammar.specs.declared.expressions.Expr.{Expr, out-Expr}
@@ -13,7 +13,7 @@ use Rattle.lua_grammar.specs.declared.expressions.Key.{Key}
 use Rattle.lua_grammar.specs.declared.expressions.Call.{Call}
 use Rattle.lua_grammar.specs.declared.statements.Deed.{Deed}
 use Rattle.lua_grammar.specs.declared.statements.Deed.TheVariants as deed_of
-use Rattle.lua_grammar.specs.Parts.{suffixed, IsCall, IsSingleCall, IsReturn, of_values, of_call}
+use Rattle.lua_grammar.specs.Parts.{suffixed, IsReturn, of_values, of_call}
 
 pub nothing_is_end : {A : Type 0} (xs : List A) (x : A) → [] ≡ xs ++ x ∷ [] → ⊥
 nothing_is_end [] x e = cc

@@ -1,5 +1,5 @@
 -- Which word each thing begins with.
-use Rattle.std.proofs.Common.{◌≡◌, ℕ, Bool, true, false, Option, Some, None, option_and_then, ap, subst, refl}
+use Rattle.std.proofs.Common.{◌≡◌, Bool, true, false, Option, Some, option_and_then, ap, subst, refl}
 use Rattle.lua_lex.specs.declared.kinds.TokenKind.{TokenKind}
 use Rattle.lua_lex.specs.declared.kinds.TokenKind.TheVariants as kind
 use Rattle.lua_grammar.specs.declared.context.Context.{Context}

@@ -138,7 +138,7 @@ SuffixForm _ rules c suffix i z = ⊥
 abbrev pub ArgumentsForm : Option TokenKind → Rules → Context → List Expr → Position → Position → Type 0
 ArgumentsForm (Some kind.LeftParen) rules c es i z = Kept (rules fault.Ambiguous) (IsNear i) × HasRoom rules c
     × IfIs (at.kind (at.next i)) kind.RightParen ((es ≡ []) × (z ≡ at.next (at.next i)))
-        ((k : Position) × Spelled rules (context.inner c) (thing.list es) (at.next i) k × Takes kind.RightParen k z)
+    ((k : Position) × Spelled rules (context.inner c) (thing.list es) (at.next i) k × Takes kind.RightParen k z)
 ArgumentsForm (Some kind.LeftBrace) rules c es i z = (fields : List Field) × (es ≡ expr.Table fields ∷ [])
     × Spelled rules c (thing.constructor fields) i z
 ArgumentsForm (Some kind.Text) rules c es i z = (es ≡ expr.Text (at.name i).text ∷ []) × (z ≡ at.next i)
@@ -149,7 +149,7 @@ ArgumentsForm _ rules c es i z = ⊥
 abbrev pub ListForm : Rules → Context → List Expr → Position → Position → Type 0
 ListForm rules c es i z = (e : Expr) × (k : Position) × Spelled rules c (thing.expression e) i k
     × IfIs (at.kind k) kind.Comma ((rest : List Expr) × (es ≡ e ∷ rest) × Spelled rules c (thing.list rest) (at.next k) z)
-        ((es ≡ e ∷ []) × (z ≡ k))
+    ((es ≡ e ∷ []) × (z ≡ k))
 
 abbrev pub ConstructorForm : Rules → Context → List Field → Position → Position → Type 0
 ConstructorForm rules c fields i z = (k : Position) × HasRoom rules c
@@ -172,8 +172,8 @@ UnkeyedForm false rules c f i z = (e : Expr) × (f ≡ field_of.Plain e) × Spel
 abbrev pub FieldForm : Rules → Context → Field → Position → Position → Type 0
 FieldForm rules c f i z = IfIs (at.kind i) kind.LeftBracket
     ((k : Expr) × (e : Expr) × (l : Position) × (m : Position) × (n : Position) × (f ≡ field_of.Keyed k e)
-        × Spelled rules c (thing.expression k) (at.next i) l × Takes kind.RightBracket l m × Takes kind.Assign m n
-        × Spelled rules c (thing.expression e) n z)
+    × Spelled rules c (thing.expression k) (at.next i) l × Takes kind.RightBracket l m × Takes kind.Assign m n
+    × Spelled rules c (thing.expression e) n z)
     (UnkeyedForm (at.names_field i) rules c f i z)
 
 -- ---- functions
@@ -191,7 +191,7 @@ ParametersForm (Some kind.RightParen) rules c names varargs i z = (names ≡ [])
 ParametersForm (Some kind.Dots) rules c names varargs i z = (names ≡ []) × (varargs ≡ true) × (z ≡ at.next i)
 ParametersForm (Some kind.Name) rules c names varargs i z = IfIs (at.kind (at.next i)) kind.Comma
     ((rest : List Name) × (names ≡ at.name i ∷ rest) × SeesNot kind.RightParen (at.next (at.next i))
-        × Spelled rules c (thing.parameters rest varargs) (at.next (at.next i)) z)
+    × Spelled rules c (thing.parameters rest varargs) (at.next (at.next i)) z)
     ((names ≡ at.name i ∷ []) × (varargs ≡ false) × (z ≡ at.next i))
 ParametersForm _ rules c names varargs i z = ⊥
 
@@ -239,7 +239,7 @@ BranchForm rules c branch i z = (e : Expr) × (block : List Stat) × (k : Positi
 abbrev pub BranchesForm : Rules → Context → List Branch → Position → Position → Type 0
 BranchesForm rules c branches i z = IfIs (at.kind i) kind.ElseIf
     ((branch : Branch) × (rest : List Branch) × (k : Position) × (branches ≡ branch ∷ rest)
-        × Spelled rules c (thing.branch branch) (at.next i) k × Spelled rules c (thing.branches rest) k z)
+    × Spelled rules c (thing.branch branch) (at.next i) k × Spelled rules c (thing.branches rest) k z)
     ((branches ≡ []) × (z ≡ i))
 
 abbrev pub OtherwiseForm : Rules → Context → List Stat → Position → Position → Type 0
@@ -257,18 +257,18 @@ StepForm rules c step i z = IfIs (at.kind i) kind.Comma ((e : Expr) × (step ≡
 abbrev pub ForRangeForm : Rules → Context → Deed → Position → Position → Type 0
 ForRangeForm rules c deed i z = IfIs (at.kind (at.next i)) kind.Assign
     ((begin : Expr) × (limit : Expr) × (step : Option Expr) × (block : List Stat)
-        × (l : Position) × (m : Position) × (n : Position) × (o : Position) × (deed ≡ deed_of.For (at.name i) begin limit step block)
-        × Spelled rules c (thing.expression begin) (at.next (at.next i)) l × Takes kind.Comma l m
-        × Spelled rules c (thing.expression limit) m n × Spelled rules c (thing.step step) n o
-        × Spelled rules c (thing.loop_block block) o z)
+    × (l : Position) × (m : Position) × (n : Position) × (o : Position) × (deed ≡ deed_of.For (at.name i) begin limit step block)
+    × Spelled rules c (thing.expression begin) (at.next (at.next i)) l × Takes kind.Comma l m
+    × Spelled rules c (thing.expression limit) m n × Spelled rules c (thing.step step) n o
+    × Spelled rules c (thing.loop_block block) o z)
     ((names : List Name) × (es : List Expr) × (block : List Stat) × (k : Position) × (l : Position) × (m : Position)
-        × (deed ≡ deed_of.ForIn names es block) × Spelled rules c (thing.names names) i k × Takes kind.In k l
-        × Spelled rules c (thing.list es) l m × Spelled rules c (thing.loop_block block) m z)
+    × (deed ≡ deed_of.ForIn names es block) × Spelled rules c (thing.names names) i k × Takes kind.In k l
+    × Spelled rules c (thing.list es) l m × Spelled rules c (thing.loop_block block) m z)
 
 abbrev pub PathForm : Rules → Context → List Name → Position → Position → Type 0
 PathForm rules c path i z = IfIs (at.kind i) kind.Dot
     ((n : Name) × (rest : List Name) × (k : Position) × (path ≡ n ∷ rest) × TakesName n (at.next i) k
-        × Spelled rules c (thing.path rest) k z)
+    × Spelled rules c (thing.path rest) k z)
     ((path ≡ []) × (z ≡ i))
 
 abbrev pub ValuesForm : Rules → Context → List Expr → Position → Position → Type 0
@@ -277,21 +277,21 @@ ValuesForm rules c es i z = IfIs (at.kind i) kind.Assign (Spelled rules c (thing
 abbrev pub TargetForm : Rules → Context → Target → Position → Position → Type 0
 TargetForm rules c target i z = (head : Expr) × (all : List Suffix) × Spelled rules c (thing.own_chain head all) i z
     × (((n : Name) × (head ≡ expr.Name n) × (all ≡ []) × (target ≡ target_of.Name n))
-        ⊎ ((suffixes : List Suffix) × (k : Key) × (all ≡ suffixes ++ suffix_of.Key k ∷ [])
-            × (target ≡ target_of.Row (suffixed head suffixes) k)))
+    ⊎ ((suffixes : List Suffix) × (k : Key) × (all ≡ suffixes ++ suffix_of.Key k ∷ [])
+    × (target ≡ target_of.Row (suffixed head suffixes) k)))
 
 abbrev pub TargetsForm : Rules → Context → List Target → Position → Position → Type 0
 TargetsForm rules c targets i z = (target : Target) × (k : Position) × Spelled rules c (thing.target target) i k
     × IfIs (at.kind k) kind.Comma ((rest : List Target) × (targets ≡ target ∷ rest) × Spelled rules c (thing.targets rest) (at.next k) z)
-        ((targets ≡ target ∷ []) × (z ≡ k))
+    ((targets ≡ target ∷ []) × (z ≡ k))
 
 -- an assignment, or a call
 abbrev pub ChainDeedForm : Rules → Context → Deed → Position → Position → Type 0
 ChainDeedForm rules c deed i z =
     ((targets : List Target) × (es : List Expr) × (k : Position) × (l : Position) × (deed ≡ deed_of.Assign targets es)
-        × Spelled rules c (thing.targets targets) i k × Takes kind.Assign k l × Spelled rules c (thing.list es) l z)
+    × Spelled rules c (thing.targets targets) i k × Takes kind.Assign k l × Spelled rules c (thing.list es) l z)
     ⊎ ((head : Expr) × (all : List Suffix) × (suffixes : List Suffix) × (how : Call) × (deed ≡ deed_of.Call (suffixed head suffixes) how)
-        × Spelled rules c (thing.own_chain head all) i z × (all ≡ suffixes ++ suffix_of.Call how ∷ []))
+    × Spelled rules c (thing.own_chain head all) i z × (all ≡ suffixes ++ suffix_of.Call how ∷ []))
 
 abbrev pub DeedForm : Option TokenKind → Rules → Context → Deed → Position → Position → Type 0
 DeedForm (Some kind.Do) rules c deed i z = (block : List Stat) × (k : Position) × (deed ≡ deed_of.Do block) × HasRoom rules c
@@ -309,15 +309,15 @@ DeedForm (Some kind.For) rules c deed i z = Spelled rules c (thing.for_range dee
 DeedForm (Some kind.Function) rules c deed i z = (name : Name) × (path : List Name) × (k : Position) × (l : Position)
     × TakesName name (at.next i) k × Spelled rules c (thing.path path) k l
     × IfIs (at.kind l) kind.Colon
-        ((last : Name) × (number : ℕ) × (m : Position) × (deed ≡ deed_of.Function name (path ++ last ∷ []) number)
-            × TakesName last (at.next l) m × Spelled rules c (thing.function_body (at.line i) true number) m z)
-        ((number : ℕ) × (deed ≡ deed_of.Function name path number)
-            × Spelled rules c (thing.function_body (at.line i) false number) l z)
+    ((last : Name) × (number : ℕ) × (m : Position) × (deed ≡ deed_of.Function name (path ++ last ∷ []) number)
+    × TakesName last (at.next l) m × Spelled rules c (thing.function_body (at.line i) true number) m z)
+    ((number : ℕ) × (deed ≡ deed_of.Function name path number)
+    × Spelled rules c (thing.function_body (at.line i) false number) l z)
 DeedForm (Some kind.Local) rules c deed i z = IfIs (at.kind (at.next i)) kind.Function
     ((name : Name) × (number : ℕ) × (k : Position) × (deed ≡ deed_of.LocalFunction name number)
-        × TakesName name (at.next (at.next i)) k × Spelled rules c (thing.function_body (at.line (at.next i)) false number) k z)
+    × TakesName name (at.next (at.next i)) k × Spelled rules c (thing.function_body (at.line (at.next i)) false number) k z)
     ((names : List Name) × (es : List Expr) × (k : Position) × (deed ≡ deed_of.Local names es)
-        × Spelled rules c (thing.names names) (at.next i) k × Spelled rules c (thing.values es) k z)
+    × Spelled rules c (thing.names names) (at.next i) k × Spelled rules c (thing.values es) k z)
 DeedForm (Some kind.Name) rules c deed i z = ChainDeedForm rules c deed i z
 DeedForm (Some kind.LeftParen) rules c deed i z = ChainDeedForm rules c deed i z
 DeedForm _ rules c deed i z = ⊥

@@ -1,5 +1,5 @@
 -- What is spelled has the parts that its next words call for.
-use Rattle.std.proofs.Common.{◌≡◌, ◌≢◌, ◌⊎◌, inl, inr, ℕ, suc, ◌+◌, ◌≤◌, Bool, true, false, List, [], ◌∷◌, Option, Some, None, refl, sym, ap, ◌∙◌, subst, subst₂, arith}
+use Rattle.std.proofs.Common.{◌≡◌, ◌≢◌, inl, inr, ℕ, Bool, true, false, List, [], ◌∷◌, Option, Some, None, refl, sym, ap, ◌∙◌, subst, subst₂, arith}
 use Rattle.lua_lex.specs.declared.kinds.TokenKind.{TokenKind}
 use Rattle.lua_lex.specs.declared.kinds.TokenKind.TheVariants as kind
 use Rattle.lua_grammar.specs.declared.context.Context.{Context}
@@ -160,7 +160,7 @@ form (by.keyed t x u v y) = sees t.seen (_, _, _, _, _, refl, moved t.taken x, u
 form (by.named {e = e} t u x) =
     let u' = takes_at t.taken u in
     sees_not (λ s. cc (s, t.seen))
-        (rw (names_it _ t.seen u'.seen) (_, ap (λ (n : Name). field_of.Named n e) t.name_is, moved u'.taken x))
+    (rw (names_it _ t.seen u'.seen) (_, ap (λ (n : Name). field_of.Named n e) t.name_is, moved u'.taken x))
 form (by.plain n x) = sees_not (not_first begins_expression (first_word x) refl) (rw n (_, refl, x))
 form (by.function_body b t ps u r x v e) = (_, _, _, _, _, _, _, _, _, b, t, ps, u, r, x, v, e)
 form (by.no_parameters s) = rw s (refl, refl, refl)

@@ -1,5 +1,5 @@
 -- What is spelled from a position on has one tree and one end: each production in turn.
-use Rattle.std.proofs.Common.{◌≡◌, List, refl, sym, ap, ◌∙◌, subst}
+use Rattle.std.proofs.Common.{◌≡◌, List, refl, sym, ap, ◌∙◌}
 use Rattle.lua_grammar.specs.declared.context.Context.{Context}
 use Rattle.lua_grammar.specs.declared.words.Word.{Word}
 use Rattle.lua_grammar.specs.declared.statements.Stat.{Stat}

@@ -1,5 +1,5 @@
 -- A list, a table's constructor or a function that begins somewhere has one tree and one end, if its parts have.
-use Rattle.std.proofs.Common.{◌≡◌, ◌≢◌, ◌⊎◌, inl, inr, ℕ, ◌+◌, ◌≤◌, ℤ, Bool, true, false, List, [], ◌∷◌, ◌++◌, Option, Some, None, refl, sym, ap, ap₂, ◌∙◌, subst, slice_set}
+use Rattle.std.proofs.Common.{◌≡◌, ℕ, Bool, true, false, List, [], ◌∷◌, sym, ap, ap₂, ◌∙◌, subst, slice_set}
 use Rattle.lua_lex.specs.declared.kinds.TokenKind.TheVariants as kind
 use Rattle.lua_grammar.specs.declared.context.Context.{Context}
 use Rattle.lua_grammar.specs.declared.expressions.Name.{Name}
@@ -24,7 +24,7 @@ in_function {rules} c {block = block} {i} {z} e x = subst (λ (v : Bool). Spelle
 bodies_same : (line : ℕ) (method : Bool) {names names' : List Name} {varargs varargs' : Bool} {block block' : List Stat}
     → names ≡ names' → varargs ≡ varargs' → block ≡ block'
     → ◌≡◌ {A = Body} (record { line = line; method = method; parameters = names; varargs = varargs; block = block })
-        (record { line = line; method = method; parameters = names'; varargs = varargs'; block = block' })
+    (record { line = line; method = method; parameters = names'; varargs = varargs'; block = block' })
 bodies_same line method p q r = cc
 
 abbrev ended : Position → ℕ → Body → Position

@@ -1,5 +1,5 @@
 -- A block or a statement that begins somewhere has one tree and one end, if its parts have.
-use Rattle.std.proofs.Common.{◌≡◌, ◌≢◌, ◌⊎◌, inl, inr, ℕ, ◌+◌, ◌≤◌, ℤ, Bool, true, false, List, [], ◌∷◌, ◌++◌, Option, Some, None, refl, sym, ap, ap₂, ◌∙◌, subst}
+use Rattle.std.proofs.Common.{◌≡◌, ℕ, true, false, List, [], ◌∷◌, ◌++◌, Option, Some, None, refl, sym, ap, ap₂, ◌∙◌, subst}
 use Rattle.lua_lex.specs.declared.kinds.TokenKind.TheVariants as kind
 use Rattle.lua_grammar.specs.declared.kinds.SyntaxKind.TheVariants as fault
 use Rattle.lua_grammar.specs.declared.context.Context.{Context}
@@ -35,6 +35,11 @@ same_for_in p q r = cc
 same_function : {name name' : Name} {path path' : List Name} {number number' : ℕ} → name ≡ name' → path ≡ path' → number ≡ number'
     → deed_of.Function name path number ≡ deed_of.Function name' path' number'
 same_function p q r = cc
+
+same_method : {name name' last last' : Name} {path path' : List Name} {number number' : ℕ} {deed : Deed} → name ≡ name' → path ≡ path'
+    → last ≡ last' → number ≡ number' → deed ≡ deed_of.Function name' (path' ++ last' ∷ []) number'
+    → deed_of.Function name (path ++ last ∷ []) number ≡ deed
+same_method p q r s is = cc
 
 pub no_statements_once : {rules : Rules} {c : Context} {i : Position} → ends_block (at.kind i) ≡ true
     → Unique rules c (thing.block []) i i
@@ -242,7 +247,7 @@ method_statement_once l t n p u m x deed' z s =
     let (last', number', j', is, m', x') = rest.0 u'.seen in
     let (same_last, behind) = same_name_taken m u'.taken m' in
     let (same, end) = x _ _ (on_line (sym l) (moved (sym behind) x')) in
-    (same_function same_name (ap₂ (λ (path : List Name) (last : Name). path ++ last ∷ []) same_path same_last) same ∙ sym is, end)
+    (same_method same_name same_path same_last same is, end)
 
 pub no_path_once : {rules : Rules} {c : Context} {i : Position} → SeesNot kind.Dot i → Unique rules c (thing.path []) i i
 no_path_once n path' z s =

@@ -1,5 +1,5 @@
 -- An assignment or a call that begins somewhere has one tree and one end, if its parts have; and no text is both.
-use Rattle.std.proofs.Common.{◌≡◌, ◌≢◌, ◌⊎◌, inl, inr, ℕ, ◌+◌, ◌≤◌, ℤ, Bool, true, false, List, [], ◌∷◌, ◌++◌, Option, Some, None, refl, sym, ap, ap₂, ◌∙◌, subst}
+use Rattle.std.proofs.Common.{◌≡◌, inl, inr, true, List, [], ◌∷◌, ◌++◌, sym, ap, ap₂, ◌∙◌}
 use Rattle.std.proofs.lemmas.List.{same_from_push}
 use Rattle.lua_lex.specs.declared.kinds.TokenKind.TheVariants as kind
 use Rattle.lua_grammar.specs.declared.context.Context.{Context}
@@ -16,8 +16,7 @@ use Rattle.lua_grammar.specs.declared.statements.Target.{Target}
 use Rattle.lua_grammar.specs.declared.statements.Target.TheVariants as target_of
 use Rattle.lua_grammar.specs.Positions as at
 use Rattle.lua_grammar.specs.Positions.{Position, Takes, TakesName, TakesText, Sees, SeesNot, IsNear}
-use Rattle.lua_grammar.specs.Contexts as context
-use Rattle.lua_grammar.specs.Contexts.{Rules, Kept, HasRoom, IsShort}
+use Rattle.lua_grammar.specs.Contexts.{Rules}
 use Rattle.lua_grammar.specs.Things as thing
 use Rattle.lua_grammar.specs.Parts.{suffixed}
 use Rattle.lua_grammar.specs.Grammar.{Spelled}
@@ -91,42 +90,48 @@ assign_once x t y first deed' z s = assigned x t y (chain_deed_at first s)
 
 pub one_target_once : {rules : Rules} {c : Context} {target : Target} {i j : Position}
     → Unique rules c (thing.target target) i j → SeesNot kind.Comma j → Unique rules c (thing.targets (target ∷ [])) i j
-one_target_once x n =
-    (λ targets' z s.
-        let (target', k', x', rest) = form s in
-        let (same, to) = x.0 _ _ x' in
-        let (is, end) = rest.1 (unseen_at to n) in
-        (ap (λ (target : Target). target ∷ []) same ∙ sym is, to ∙ sym end),
-     x.1)
+one_target_once x n = (
+  λ targets' z s.
+      let (target', k', x', rest) = form s in
+      let (same, to) = x.0 _ _ x' in
+      let (is, end) = rest.1 (unseen_at to n) in
+      (ap (λ (target : Target). target ∷ []) same ∙ sym is, to ∙ sym end),
+  x.1,
+)
 
 pub more_targets_once : {rules : Rules} {c : Context} {target : Target} {targets : List Target} {i j k l : Position}
     → Unique rules c (thing.target target) i j → Takes kind.Comma j k → Unique rules c (thing.targets targets) k l
     → Unique rules c (thing.targets (target ∷ targets)) i l
-more_targets_once x t xs =
-    (λ targets' z s.
-        let (target', k', x', rest) = form s in
-        let (same, to) = x.0 _ _ x' in
-        let t' = takes_at to t in
-        let (rest', is, xs') = rest.0 t'.seen in
-        let (more, end) = xs.0 _ _ (moved (sym t'.taken) xs') in
-        (ap₂ ◌∷◌ same more ∙ sym is, end),
-     x.1)
+more_targets_once x t xs = (
+  λ targets' z s.
+      let (target', k', x', rest) = form s in
+      let (same, to) = x.0 _ _ x' in
+      let t' = takes_at to t in
+      let (rest', is, xs') = rest.0 t'.seen in
+      let (more, end) = xs.0 _ _ (moved (sym t'.taken) xs') in
+      (ap₂ ◌∷◌ same more ∙ sym is, end),
+  x.1,
+)
 
 pub name_target_once : {rules : Rules} {c : Context} {n : Name} {i j : Position}
     → Unique rules c (thing.own_chain (expr.Name n) []) i j → Unique rules c (thing.target (target_of.Name n)) i j
-name_target_once x =
-    (λ target' z s. name_targeted x (form s), λ head all suffixes how z s e.
-        let (same, rest, to) = x _ _ _ s in
-        nothing_is_end suffixes _ (rest ∙ e))
+name_target_once x = (
+  λ target' z s. name_targeted x (form s),
+  λ head all suffixes how z s e.
+      let (same, rest, to) = x _ _ _ s in
+      nothing_is_end suffixes _ (rest ∙ e),
+)
 
 pub row_target_once : {rules : Rules} {c : Context} {head : Expr} {all : List Suffix} {k : Key}
     {i j : Position} (suffixes : List Suffix)
     → Unique rules c (thing.own_chain head all) i j → all ≡ suffixes ++ suffix_of.Key k ∷ []
     → Unique rules c (thing.target (target_of.Row (suffixed head suffixes) k)) i j
-row_target_once suffixes x e =
-    (λ target' z s. row_targeted suffixes x e (form s), λ head all suffixes' how z s e'.
-        let (same, rest, to) = x _ _ _ s in
-        no_call (same_from_push suffixes suffixes' _ _ (sym e ∙ rest ∙ e')).1)
+row_target_once suffixes x e = (
+  λ target' z s. row_targeted suffixes x e (form s),
+  λ head all suffixes' how z s e'.
+      let (same, rest, to) = x _ _ _ s in
+      no_call (same_from_push suffixes suffixes' _ _ (sym e ∙ rest ∙ e')).1,
+)
 
 pub call_statement_once : {rules : Rules} {c : Context} {head : Expr} {all : List Suffix} {how : Call}
     {i j : Position} (suffixes : List Suffix)

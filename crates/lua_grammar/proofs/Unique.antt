@@ -1,17 +1,11 @@
 -- That what is spelled from a position on has one tree and one end.
-use Rattle.std.proofs.Common.{◌≡◌, ℕ, Bool, List, [], ◌∷◌, ◌++◌, Option, sym, ap, ◌∙◌}
+use Rattle.std.proofs.Common.{◌≡◌, Bool, List, [], ◌∷◌, ◌++◌, sym, ap, ◌∙◌}
 use Rattle.lua_grammar.specs.declared.context.Context.{Context}
 use Rattle.lua_grammar.specs.declared.expressions.Name.{Name}
 use Rattle.lua_grammar.specs.declared.expressions.Expr.{Expr}
-use Rattle.lua_grammar.specs.declared.expressions.Link.{Link}
 use Rattle.lua_grammar.specs.declared.expressions.Suffix.{Suffix}
 use Rattle.lua_grammar.specs.declared.expressions.Suffix.TheVariants as suffix_of
 use Rattle.lua_grammar.specs.declared.expressions.Call.{Call}
-use Rattle.lua_grammar.specs.declared.expressions.Field.{Field}
-use Rattle.lua_grammar.specs.declared.statements.Stat.{Stat}
-use Rattle.lua_grammar.specs.declared.statements.Deed.{Deed}
-use Rattle.lua_grammar.specs.declared.statements.Branch.{Branch}
-use Rattle.lua_grammar.specs.declared.statements.Target.{Target}
 use Rattle.lua_grammar.specs.Positions as at
 use Rattle.lua_grammar.specs.Positions.{Position, TakesName}
 use Rattle.lua_grammar.specs.Contexts.{Rules}

@@ -3,7 +3,7 @@ ghost use Rattle.lua_grammar.specs.declared.kinds.SyntaxKind.{SyntaxKind};
 ghost use Rattle.lua_grammar.specs.declared.words.Word.{Word};
 ghost use Rattle.lua_grammar.specs.declared.statements.Stat.{Stat};
 ghost use Rattle.lua_grammar.specs.declared.statements.Body.{Body};
-ghost use Rattle.lua_grammar.specs.Contexts.{every_rule};
+ghost use Rattle.lua_grammar.specs.Contexts.{Rules, every_rule};
 ghost use Rattle.lua_grammar.specs.Trees.{IsTree};
 ghost use Rattle.lua_grammar.specs.Stops.{Begins, StopsAt};
 
@@ -13,4 +13,10 @@ pub fn a_tree_or_a_stop()
         → IsTree every_rule words block bodies → StopsAt words last_line line kind → ⊥ }
     ensures front { (front back : List Word) (block : List Stat) (bodies : List Body)
         → IsTree every_rule (front ++ back) block bodies → Begins every_rule front }
+{}
+
+/// Words have one tree at most, whichever rules are kept.
+pub fn one_tree()
+    ensures { (rules : Rules) (words : List Word) (block block' : List Stat) (bodies bodies' : List Body)
+        → IsTree rules words block bodies → IsTree rules words block' bodies' → (block ≡ block') × (bodies ≡ bodies') }
 {}
