@@ -8,3 +8,4 @@ pub mod OnceLists
 pub mod OnceStatements
 pub mod OnceTargets
 pub mod Once
+pub mod Texts

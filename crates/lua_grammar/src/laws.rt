@@ -3,8 +3,9 @@ ghost use Rattle.lua_grammar.specs.declared.kinds.SyntaxKind.{SyntaxKind};
 ghost use Rattle.lua_grammar.specs.declared.words.Word.{Word};
 ghost use Rattle.lua_grammar.specs.declared.statements.Stat.{Stat};
 ghost use Rattle.lua_grammar.specs.declared.statements.Body.{Body};
+ghost use Rattle.lua_grammar.specs.declared.statements.Chunk.{Chunk};
 ghost use Rattle.lua_grammar.specs.Contexts.{Rules, every_rule};
-ghost use Rattle.lua_grammar.specs.Trees.{IsTree};
+ghost use Rattle.lua_grammar.specs.Trees.{IsTree, HasTree};
 ghost use Rattle.lua_grammar.specs.Stops.{Begins, StopsAt};
 
 /// Words that have a tree have no stop, and each front of them begins a text.
@@ -15,8 +16,9 @@ pub fn a_tree_or_a_stop()
         → IsTree every_rule (front ++ back) block bodies → Begins every_rule front }
 {}
 
-/// Words have one tree at most, whichever rules are kept.
+/// Words have one tree at most, whichever rules are kept, and so has a text.
 pub fn one_tree()
-    ensures { (rules : Rules) (words : List Word) (block block' : List Stat) (bodies bodies' : List Body)
+    ensures of_words { (rules : Rules) (words : List Word) (block block' : List Stat) (bodies bodies' : List Body)
         → IsTree rules words block bodies → IsTree rules words block' bodies' → (block ≡ block') × (bodies ≡ bodies') }
+    ensures of_text { (text : List ℕ) (chunk chunk' : Chunk) → HasTree text chunk → HasTree text chunk' → chunk ≡ chunk' }
 {}
