@@ -3,3 +3,4 @@ mod Refusing
 mod Within
 mod Rows
 mod Working
+mod Refused

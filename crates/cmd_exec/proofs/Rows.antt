@@ -1,5 +1,5 @@
 -- Which crate carries out a command.
-use Rattle.std.proofs.Common.{◌≡◌, ℕ, Bool, true, false, cond, List, [], ◌∷◌, ◌++◌, Some, Result, Ok, Err, IfOk, OnOk, slice_get, append-nil, refl, sym, ap, subst, ◌∙◌}
+use Rattle.std.proofs.Common.{◌≡◌, ℕ, true, false, cond, List, [], ◌∷◌, ◌++◌, Some, Result, Ok, Err, IfOk, OnOk, slice_get, append-nil, refl, sym, ap, subst, ◌∙◌}
 use Rattle.rs_base.specs.declared.memory.NoMemory.{NoMemory}
 use Rattle.resp_reply.specs.declared.reply.Reply.{Reply}
 use Rattle.ks_space.specs.Store.{Store}
@@ -14,10 +14,10 @@ use Rattle.cmd_args.specs.Table.{row_named}
 use Rattle.cmd_args.specs.Draws.{state_after}
 use Rattle.cmd_rows.specs.Outcomes.{Outcome, refused}
 use Rattle.cmd_rows.specs.Deeds.{Did}
-use Rattle.cmd_string.specs.StringTable.{string_row}
+use Rattle.cmd_string.specs.StringTable.{is_of_strings, string_row}
 use Rattle.cmd_keys.specs.Rows.{key_row}
 use Rattle.cmd_exec.specs.Worlds.{World}
-use Rattle.cmd_exec.specs.Exec.{is_of_strings, row_outcome, unless_refused, outcome_of, reason, given}
+use Rattle.cmd_exec.specs.Exec.{row_outcome, unless_refused, outcome_of, reason, given}
 
 pub strings_is : (world : World) (id : CmdId) (words : List (List ℕ)) → is_of_strings id ≡ true → row_outcome world id words ≡ string_row world.store world.time id words
 unfolding row_outcome

@@ -1,5 +1,5 @@
 -- The records of a command.
-use Rattle.std.proofs.Common.{◌≡◌, ◌↔◌, ℕ, Bool, true, false, cond, List, [], ◌∷◌, Option, Some, None, refl, sym, subst, ◌∙◌}
+use Rattle.std.proofs.Common.{◌≡◌, ◌↔◌, ℕ, true, false, cond, List, [], ◌∷◌, Option, Some, None, refl, sym, ◌∙◌}
 use Rattle.std.specs.List.{AllByRecursion}
 use Rattle.ks_space.specs.Store.{Store, IsStore, IsShort}
 use Rattle.ks_space.specs.Purge.{IsTimely}
@@ -15,10 +15,10 @@ use Rattle.cmd_args.specs.declared.turn.Mode.{Mode}
 use Rattle.cmd_args.specs.Table.{row_named}
 use Rattle.cmd_rows.specs.Outcomes.{Outcome}
 use Rattle.cmd_rows.specs.Bounds.{AreTimelyWithin}
-use Rattle.cmd_string.specs.StringTable.{string_row}
+use Rattle.cmd_string.specs.StringTable.{is_of_strings, string_row}
 use Rattle.cmd_keys.specs.Rows.{key_row}
 use Rattle.cmd_exec.specs.Worlds.{World, IsWorld}
-use Rattle.cmd_exec.specs.Exec.{is_of_strings, row_outcome, unless_refused, outcome_of, reason, given, exec}
+use Rattle.cmd_exec.specs.Exec.{row_outcome, unless_refused, outcome_of, reason, given, exec}
 use Rattle.cmd_exec.proofs.Refusing.{words_short}
 
 -- records that keep to both keep to each

@@ -1,5 +1,5 @@
 -- Worlds at the beginning of a turn.
-use Rattle.std.proofs.Common.{◌≡◌, ℕ, max, List, [], ◌∷◌, None, Some, fold, refl, sym, subst}
+use Rattle.std.proofs.Common.{◌≡◌, ℕ, max, List, [], ◌∷◌, fold, refl, sym, subst}
 use Rattle.std.specs.FinMap as finite
 use Rattle.ks_space.specs.declared.entry.Entry.{Entry}
 use Rattle.ks_space.specs.Store.{Store, IsKey, IsKept, IsStore}

@@ -2,7 +2,6 @@
 use Rattle.std.specs.Prelude.{ℕ, nat_le, Bool, true, false, not, ◌&&◌, ◌||◌, if◌then◌else◌, List, [], ◌∷◌, Option, Some, None, length, sum_by}
 use Rattle.std.specs.List.{list_all}
 use Rattle.cmd_args.specs.declared.commands.CmdId.{CmdId}
-use Rattle.cmd_args.specs.declared.commands.CmdId.TheVariants.{Get, Set, SetNx, SetEx, PSetEx, GetSet, GetDel, GetEx, MGet, MSet, MSetNx, Append, StrLen, GetRange, SetRange, Incr, Decr, IncrBy, DecrBy}
 use Rattle.cmd_args.specs.declared.commands.Row.{Row}
 use Rattle.cmd_args.specs.declared.refusal.Refusal.{Refusal}
 use Rattle.cmd_args.specs.declared.refusal.Refusal.TheVariants.{NoWord, UnknownCommand, WordCount, NotInScript, ReadOnlyScript, TooLarge}
@@ -13,7 +12,7 @@ use Rattle.cmd_args.specs.Refusals.{shown}
 use Rattle.fx_record.specs.RecordWords.{is_short}
 use Rattle.fx_record.specs.Settled.{settled}
 use Rattle.cmd_rows.specs.Outcomes.{Outcome, refused}
-use Rattle.cmd_string.specs.StringTable.{string_row}
+use Rattle.cmd_string.specs.StringTable.{is_of_strings, string_row}
 use Rattle.cmd_keys.specs.Rows.{key_row}
 use Rattle.cmd_exec.specs.Worlds.{World}
 
@@ -40,29 +39,6 @@ reason mode row words =
     else (if is_barred mode row then Some NotInScript
     else (if may_only_read mode && row.writes then Some ReadOnlyScript
     else (if not (is_within words) then Some TooLarge else None)))
-
--- the commands on strings
-abbrev pub is_of_strings : CmdId → Bool
-is_of_strings Get = true
-is_of_strings Set = true
-is_of_strings SetNx = true
-is_of_strings SetEx = true
-is_of_strings PSetEx = true
-is_of_strings GetSet = true
-is_of_strings GetDel = true
-is_of_strings GetEx = true
-is_of_strings MGet = true
-is_of_strings MSet = true
-is_of_strings MSetNx = true
-is_of_strings Append = true
-is_of_strings StrLen = true
-is_of_strings GetRange = true
-is_of_strings SetRange = true
-is_of_strings Incr = true
-is_of_strings Decr = true
-is_of_strings IncrBy = true
-is_of_strings DecrBy = true
-is_of_strings _ = false
 
 -- what the command itself gives
 unfoldable pub row_outcome : World → CmdId → List (List ℕ) → Outcome

@@ -1,4 +1,5 @@
 ghost use Rattle.std.specs.Prelude.{◌≡◌, [], max, OnOk, OnErr, IfOk};
+ghost use Rattle.std.specs.FinMap as finite;
 ghost use Rattle.ks_space.specs.Purge.{gone};
 ghost use Rattle.cmd_exec.specs.Worlds.{empty_world, begun, worked};
 ghost use Rattle.cmd_exec.specs.Exec.{exec};
@@ -68,6 +69,7 @@ impl Desk {
         ensures desk { OnOk result (self.new ≡ record self.old { world = begun self.old.world clock word }) }
         ensures mode { self.new.mode ≡ self.old.mode }
         ensures effects { self.new.effects ≡ self.old.effects }
+        ensures err { OnErr result (self.new.world.store ≡ finite.empty) }
     {
         self.ctx.time = self.ctx.time.max(clock);
         self.draws = Draws::new(word);
@@ -87,6 +89,7 @@ impl Desk {
         ensures desk { OnOk result (self.new ≡ worked self.old (exec self.old.world self.old.mode words.now)) }
         ensures mode { self.new.mode ≡ self.old.mode }
         ensures err { OnErr result (self.new.effects ≡ []) }
+        ensures emptied { OnErr result (self.new.world.store ≡ finite.empty) }
     {
         commands_keep_the_world();
         match carry_out(

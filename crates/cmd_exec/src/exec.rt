@@ -5,7 +5,8 @@ ghost use Rattle.fx_record.specs.RecordWords.{is_short};
 ghost use Rattle.cmd_args.specs.Draws.{state_after};
 ghost use Rattle.cmd_rows.specs.Outcomes.{refused};
 ghost use Rattle.cmd_rows.specs.Deeds.{Did};
-ghost use Rattle.cmd_exec.specs.Exec.{is_barred, may_only_read, is_within, reason, is_of_strings, row_outcome, given};
+ghost use Rattle.cmd_exec.specs.Exec.{is_barred, may_only_read, is_within, reason, row_outcome, given};
+ghost use Rattle.cmd_string.specs.StringTable.{is_of_strings};
 
 use cmd_args::{CmdId, Ctx, Draws, Mode, Refusal, Row, find};
 use cmd_keys::run_keys;

@@ -8,4 +8,7 @@ mod laws;
 mod tests;
 
 pub use desk::Desk;
-pub use laws::commands_keep_the_world;
+pub use laws::{
+    a_refused_command_does_nothing, commands_keep_the_world, commands_leave_other_keys,
+    each_command_has_a_row,
+};

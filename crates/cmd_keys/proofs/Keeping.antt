@@ -12,21 +12,18 @@ use Rattle.fx_record.specs.Records.{apply, applied, renamed}
 use Rattle.fx_record.proofs.Stores.{get-insert_other, get-remove_same, get-remove_other, get-empty}
 use Rattle.fx_record.proofs.RecordLaws.{with_deadline-there, with_deadline-absent, renamed-there, renamed-absent}
 use Rattle.cmd_args.specs.declared.commands.CmdId.{CmdId}
+use Rattle.cmd_args.specs.Keys.{keys_named}
+use Rattle.cmd_args.proofs.KeyLaws.{apart-all}
 use Rattle.cmd_rows.specs.Numbers.{is_within_64}
 use Rattle.cmd_rows.specs.Times.{expire_at}
 use Rattle.cmd_keys.specs.KeyRows.{is_there, leaving, del_row}
-use Rattle.cmd_keys.specs.Rows.{behind_name, key_row}
+use Rattle.cmd_keys.specs.Rows.{key_row}
 use Rattle.cmd_keys.specs.Laws.{left_by, KeepsKeys}
 use Rattle.cmd_keys.proofs.Leaving.{absent-from, gone_after}
 use Rattle.cmd_keys.proofs.Records.{rows-all}
 
--- the key is none of these
 abbrev Apart : List ℕ → List ℕ → Type 0
 Apart key k = key ≢ k
-
-apart-all : (key : List ℕ) (keys : List (List ℕ)) → (Contains keys key → ⊥) → AllByRecursion (Apart key) keys
-apart-all key [] none = tt
-apart-all key (k ∷ keys) none = (λ same. none (zero, omega arith, sym same), apart-all key keys (λ h. none (suc h.0, omega (arith, h.1), h.2)))
 
 -- a record that does not name the key
 abbrev Spares : List ℕ → Record → Type 0
@@ -76,11 +73,11 @@ spares-expiring now key k (pos at) apart within = by_test (leb at now)
     by_test true = apart
     by_test false = apart
 
-pub rows_spare : (store : Store) (now draws : ℕ) (id : CmdId) (words : List (List ℕ)) (key : List ℕ) → KeepsKeys id → (Contains (behind_name words) key → ⊥)
+pub rows_spare : (store : Store) (now draws : ℕ) (id : CmdId) (words : List (List ℕ)) (key : List ℕ) → KeepsKeys id → (Contains (keys_named id words) key → ⊥)
     → finite.get (left_by store (key_row store now draws id words)) key ≡ finite.get store key
 rows_spare store now draws id words key keeps none =
     spares-applied store (key_row store now draws id words).records key
-    (rows-all (Spares key) (Apart key) now (λ k a. a) (λ k a. a) (λ from to a b. (a, b)) (spares-expiring now key) store draws id words (apart-all key (behind_name words) none) (λ flushed. absurd (flushed keeps)))
+    (rows-all (Spares key) (Apart key) now (λ k a. a) (λ k a. a) (λ from to a b. (a, b)) (spares-expiring now key) store draws id words (apart-all key (keys_named id words) none) (λ flushed. absurd (flushed keeps)))
 
 -- DEL
 dels-spare : (store : Store) (keys : List (List ℕ)) (key : List ℕ) → AllByRecursion (Apart key) keys → AllByRecursion (Spares key) (map Del (leaving store keys))

@@ -5,3 +5,4 @@ pub mod Matching
 pub mod RowLaws
 pub mod Keeping
 pub mod KeyLists
+pub mod RowEnds

@@ -1,5 +1,5 @@
 -- What is so of each record of the rows.
-use Rattle.std.proofs.Common.{◌≡◌, ℕ, zero, suc, Bool, true, false, cond, ℤ, pos, negsuc, List, [], ◌∷◌, map, Option, Some, None, Result, Ok, Err, slice_get, refl, subst}
+use Rattle.std.proofs.Common.{◌≡◌, ℕ, zero, suc, Bool, true, false, cond, ℤ, pos, negsuc, List, [], ◌∷◌, take, drop, map, Option, Some, None, Result, Ok, Err, slice_get, refl, subst}
 use Rattle.std.specs.List.{AllByRecursion}
 use Rattle.std.specs.Option.{is_some}
 use Rattle.std.specs.FinMap as finite
@@ -10,11 +10,13 @@ use Rattle.cmd_args.specs.declared.commands.CmdId.{CmdId}
 use Rattle.cmd_args.specs.declared.commands.CmdId.TheVariants.{Ping, Echo, Select, FlushAll, FlushDb, Del as DelId, Unlink, TypeOf, Keys, RandomKey, Rename as RenameId, RenameNx, Expire, PExpire, ExpireAt as ExpireAtId, PExpireAt, Persist as PersistId, PTtl, Ttl, PExpireTime, ExpireTime}
 use Rattle.cmd_args.specs.declared.refusal.Refusal.{Refusal}
 use Rattle.cmd_args.specs.Draws.{drawn_place}
+use Rattle.cmd_args.specs.Keys.{keys_named}
 use Rattle.cmd_rows.specs.declared.times.Expiry.{Expiry}
 use Rattle.cmd_rows.specs.declared.times.Expiry.TheVariants.{InSeconds, InMillis, AtSecond, AtMillis}
 use Rattle.cmd_rows.specs.Numbers.{is_within_64, number}
 use Rattle.cmd_rows.specs.Times.{moment, expire_time, expire_at}
 use Rattle.cmd_rows.specs.Outcomes.{Outcome, with_found, word_at}
+use Rattle.cmd_rows.proofs.WordPlaces.{first_key, first_of_two, second_of_two}
 use Rattle.cmd_keys.specs.ServerRows.{is_flush_mode, flush_row, echo_row, select_row, selected, ping_row}
 use Rattle.cmd_keys.specs.KeyRows.{is_there, leaving, rename_row, renamenx_row, drawn_key, type_row, keys_row}
 use Rattle.cmd_keys.specs.declared.expiring.Asked.TheVariants.{MillisLeft, SecondsLeft, Millisecond, Second}
@@ -22,20 +24,10 @@ use Rattle.cmd_keys.specs.DeadlineRows.{expire_row, persist_row, deadline_row}
 use Rattle.cmd_keys.specs.Laws.{KeepsKeys}
 use Rattle.cmd_keys.specs.Rows.{behind_name, with_word, with_two_words, reading_row, changing_row, key_row}
 
--- what is so of each of the words is so of the one at a place
-pub word_at-all : (Q : List ℕ → Type 0) (words : List (List ℕ)) (place : ℕ) (word : List ℕ) → AllByRecursion Q words → word_at words place ≡ Ok word → Q word
-word_at-all Q [] place word short e = absurd (cc)
-word_at-all Q (w ∷ words) zero word short e = let same : w ≡ word = cc in subst Q same short.0
-word_at-all Q (w ∷ words) (suc place) word short e = word_at-all Q words place word short.1 e
-
--- and of each behind the name, of the one at a place behind it
-pub word_behind-all : (Q : List ℕ → Type 0) (words : List (List ℕ)) (place : ℕ) (word : List ℕ) → AllByRecursion Q (behind_name words) → word_at words (suc place) ≡ Ok word → Q word
-word_behind-all Q [] place word short e = absurd (cc)
-word_behind-all Q (name ∷ words) place word short e = word_at-all Q words place word short e
-
-pub behind_name-all : (Q : List ℕ → Type 0) (words : List (List ℕ)) → AllByRecursion Q words → AllByRecursion Q (behind_name words)
-behind_name-all Q [] short = tt
-behind_name-all Q (name ∷ words) short = short.1
+-- what is so of each word behind the name
+behind_name-all : (Q : List ℕ → Type 0) (words : List (List ℕ)) → AllByRecursion Q (drop 1 words) → AllByRecursion Q (behind_name words)
+behind_name-all Q [] all = tt
+behind_name-all Q (name ∷ words) all = all
 
 -- the time that is given to a key is within 64 bits
 pub expire_time-within : (command : CmdId) (kind : Expiry) (now : ℕ) (n at : ℤ) → expire_time command kind now n ≡ Ok at → is_within_64 at ≡ true
@@ -84,14 +76,25 @@ module _ (P : Record → Type 0) (Q : List ℕ → Type 0) (now : ℕ) (deleting
   persist-all : (store : Store) (key : List ℕ) → Q key → AllByRecursion P (persist_row store key).records
   persist-all store key short = either-all (is_some (deadline_at store key)) _ _ (persisting key short, tt) tt
 
-  two-all : (words : List (List ℕ)) (row : List ℕ → List ℕ → Outcome) → AllByRecursion Q (behind_name words) → ((one other : List ℕ) → Q one → Q other → AllByRecursion P (row one other).records)
-      → AllByRecursion P (with_two_words words row).records
-  two-all words row short h =
+  -- of two keys, of a key and a word, and of a key
+  keys-all : (words : List (List ℕ)) (row : List ℕ → List ℕ → Outcome) → AllByRecursion Q (take 2 (drop 1 words))
+      → ((one other : List ℕ) → Q one → Q other → AllByRecursion P (row one other).records) → AllByRecursion P (with_two_words words row).records
+  keys-all words row keys h =
       found-all (word_at words 1) _ (λ one first. found-all (word_at words 2) _ (λ other second.
-      h one other (word_behind-all Q words 0 one short first) (word_behind-all Q words 1 other short second)))
+      h one other (first_of_two Q words one keys first) (second_of_two Q words other keys second)))
 
-  one-all : (words : List (List ℕ)) (row : List ℕ → Outcome) → AllByRecursion Q (behind_name words) → ((word : List ℕ) → Q word → AllByRecursion P (row word).records) → AllByRecursion P (with_word words row).records
-  one-all words row short h = found-all (word_at words 1) row (λ word first. h word (word_behind-all Q words 0 word short first))
+  key_word-all : (words : List (List ℕ)) (row : List ℕ → List ℕ → Outcome) → AllByRecursion Q (take 1 (drop 1 words))
+      → ((key word : List ℕ) → Q key → AllByRecursion P (row key word).records) → AllByRecursion P (with_two_words words row).records
+  key_word-all words row keys h =
+      found-all (word_at words 1) _ (λ key first. found-all (word_at words 2) _ (λ word second. h key word (first_key Q words key keys first)))
+
+  key-all : (words : List (List ℕ)) (row : List ℕ → Outcome) → AllByRecursion Q (take 1 (drop 1 words)) → ((key : List ℕ) → Q key → AllByRecursion P (row key).records)
+      → AllByRecursion P (with_word words row).records
+  key-all words row keys h = found-all (word_at words 1) row (λ key first. h key (first_key Q words key keys first))
+
+  -- of a word of which nothing is known
+  word-all : (words : List (List ℕ)) (row : List ℕ → Outcome) → ((word : List ℕ) → AllByRecursion P (row word).records) → AllByRecursion P (with_word words row).records
+  word-all words row h = found-all (word_at words 1) row (λ word first. h word)
 
   selected-all : (n : ℤ) → AllByRecursion P (selected n).records
   selected-all (pos zero) = tt
@@ -102,39 +105,40 @@ module _ (P : Record → Type 0) (Q : List ℕ → Type 0) (now : ℕ) (deleting
   ping-all None = tt
   ping-all (Some word) = tt
 
-  reading-all : (store : Store) (id : CmdId) (words : List (List ℕ)) → AllByRecursion Q (behind_name words) → AllByRecursion P (reading_row store now id words).records
+  reading-all : (store : Store) (id : CmdId) (words : List (List ℕ)) → AllByRecursion P (reading_row store now id words).records
   unfolding reading_row
-  reading-all store Ping words short = ping-all (slice_get words 1)
-  reading-all store Echo words short = one-all words echo_row short (λ w s. tt)
-  reading-all store Select words short = one-all words select_row short (λ w s. found-all (number w) selected (λ n read. selected-all n))
-  reading-all store TypeOf words short = one-all words (type_row store) short (λ w s. tt)
-  reading-all store Keys words short = one-all words (keys_row store) short (λ w s. tt)
-  reading-all store PTtl words short = one-all words (deadline_row store MillisLeft now) short (λ w s. tt)
-  reading-all store Ttl words short = one-all words (deadline_row store SecondsLeft now) short (λ w s. tt)
-  reading-all store PExpireTime words short = one-all words (deadline_row store Millisecond now) short (λ w s. tt)
-  reading-all store ExpireTime words short = one-all words (deadline_row store Second now) short (λ w s. tt)
-  reading-all store _ words short = tt
+  reading-all store Ping words = ping-all (slice_get words 1)
+  reading-all store Echo words = word-all words echo_row (λ w. tt)
+  reading-all store Select words = word-all words select_row (λ w. found-all (number w) selected (λ n read. selected-all n))
+  reading-all store TypeOf words = word-all words (type_row store) (λ w. tt)
+  reading-all store Keys words = word-all words (keys_row store) (λ w. tt)
+  reading-all store PTtl words = word-all words (deadline_row store MillisLeft now) (λ w. tt)
+  reading-all store Ttl words = word-all words (deadline_row store SecondsLeft now) (λ w. tt)
+  reading-all store PExpireTime words = word-all words (deadline_row store Millisecond now) (λ w. tt)
+  reading-all store ExpireTime words = word-all words (deadline_row store Second now) (λ w. tt)
+  reading-all store _ words = tt
 
-  changing-all : (store : Store) (id : CmdId) (words : List (List ℕ)) → AllByRecursion Q (behind_name words) → ((KeepsKeys id → ⊥) → P Flushing) → AllByRecursion P (changing_row store now id words).records
-  unfolding changing_row
-  changing-all store FlushAll words short flushing = flush-all (flushing (λ keeps. keeps.0 refl)) (slice_get words 1)
-  changing-all store FlushDb words short flushing = flush-all (flushing (λ keeps. keeps.1 refl)) (slice_get words 1)
-  changing-all store DelId words short flushing = dels-all store (behind_name words) short
-  changing-all store Unlink words short flushing = dels-all store (behind_name words) short
-  changing-all store RenameId words short flushing = two-all words (rename_row store) short (rename-all store)
-  changing-all store RenameNx words short flushing = two-all words (renamenx_row store) short (renamenx-all store)
-  changing-all store Expire words short flushing = two-all words (expire_row store Expire InSeconds now) short (λ key word s t. expire-all store Expire InSeconds key word s)
-  changing-all store PExpire words short flushing = two-all words (expire_row store PExpire InMillis now) short (λ key word s t. expire-all store PExpire InMillis key word s)
-  changing-all store ExpireAtId words short flushing = two-all words (expire_row store ExpireAtId AtSecond now) short (λ key word s t. expire-all store ExpireAtId AtSecond key word s)
-  changing-all store PExpireAt words short flushing = two-all words (expire_row store PExpireAt AtMillis now) short (λ key word s t. expire-all store PExpireAt AtMillis key word s)
-  changing-all store PersistId words short flushing = one-all words (persist_row store) short (persist-all store)
-  changing-all store id words short flushing = reading-all store id words short
+  changing-all : (store : Store) (id : CmdId) (words : List (List ℕ)) → AllByRecursion Q (keys_named id words) → ((KeepsKeys id → ⊥) → P Flushing) → AllByRecursion P (changing_row store now id words).records
+  unfolding changing_row keys_named
+  changing-all store FlushAll words keys flushing = flush-all (flushing (λ keeps. keeps.0 refl)) (slice_get words 1)
+  changing-all store FlushDb words keys flushing = flush-all (flushing (λ keeps. keeps.1 refl)) (slice_get words 1)
+  changing-all store DelId words keys flushing = dels-all store (behind_name words) (behind_name-all Q words keys)
+  changing-all store Unlink words keys flushing = dels-all store (behind_name words) (behind_name-all Q words keys)
+  changing-all store RenameId words keys flushing = keys-all words (rename_row store) keys (rename-all store)
+  changing-all store RenameNx words keys flushing = keys-all words (renamenx_row store) keys (renamenx-all store)
+  changing-all store Expire words keys flushing = key_word-all words (expire_row store Expire InSeconds now) keys (expire-all store Expire InSeconds)
+  changing-all store PExpire words keys flushing = key_word-all words (expire_row store PExpire InMillis now) keys (expire-all store PExpire InMillis)
+  changing-all store ExpireAtId words keys flushing = key_word-all words (expire_row store ExpireAtId AtSecond now) keys (expire-all store ExpireAtId AtSecond)
+  changing-all store PExpireAt words keys flushing = key_word-all words (expire_row store PExpireAt AtMillis now) keys (expire-all store PExpireAt AtMillis)
+  changing-all store PersistId words keys flushing = key-all words (persist_row store) keys (persist-all store)
+  changing-all store id words keys flushing = reading-all store id words
 
   drawn-all : (key : Option (List ℕ)) → AllByRecursion P (drawn_key key).records
   drawn-all None = tt
   drawn-all (Some key) = tt
 
-  pub rows-all : (store : Store) (draws : ℕ) (id : CmdId) (words : List (List ℕ)) → AllByRecursion Q (behind_name words) → ((KeepsKeys id → ⊥) → P Flushing) → AllByRecursion P (key_row store now draws id words).records
+  -- what is so of the keys that the command names by their places shows it of each record
+  pub rows-all : (store : Store) (draws : ℕ) (id : CmdId) (words : List (List ℕ)) → AllByRecursion Q (keys_named id words) → ((KeepsKeys id → ⊥) → P Flushing) → AllByRecursion P (key_row store now draws id words).records
   unfolding key_row
-  rows-all store draws RandomKey words short flushing = drawn-all (slice_get (finite.keys store) (drawn_place (finite.len store) draws))
-  rows-all store draws id words short flushing = changing-all store id words short flushing
+  rows-all store draws RandomKey words keys flushing = drawn-all (slice_get (finite.keys store) (drawn_place (finite.len store) draws))
+  rows-all store draws id words keys flushing = changing-all store id words keys flushing

@@ -5,13 +5,15 @@ use Rattle.std.specs.List.{AllByRecursion}
 use Rattle.ks_space.specs.Store.{Store, IsShort}
 use Rattle.fx_record.specs.declared.record.Record.TheVariants.{Del, ExpireAt}
 use Rattle.cmd_args.specs.declared.commands.CmdId.{CmdId}
+use Rattle.cmd_args.proofs.KeyLaws.{all-keys_named}
+use Rattle.cmd_rows.proofs.WordPlaces.{word_at-all}
 use Rattle.cmd_rows.specs.declared.times.Expiry.{Expiry}
 use Rattle.cmd_rows.specs.Numbers.{is_within_64}
 use Rattle.cmd_rows.specs.Times.{expire_time, expire_at}
 use Rattle.cmd_rows.specs.Outcomes.{word_at}
 use Rattle.cmd_rows.specs.Bounds.{IsTimelyWithin, AreTimelyWithin}
 use Rattle.cmd_keys.specs.Rows.{key_row}
-use Rattle.cmd_keys.proofs.Records.{word_at-all, behind_name-all, expire_time-within, rows-all}
+use Rattle.cmd_keys.proofs.Records.{expire_time-within, rows-all}
 
 expire_at-within : (now : ℕ) (key : List ℕ) (at : ℤ) → IsShort key → is_within_64 at ≡ true → IsTimelyWithin now (expire_at key now at)
 expire_at-within now key (negsuc n) short within = (short, tt)
@@ -31,4 +33,4 @@ copy-short words place word copy short found same = subst IsShort (sym same) (wo
 
 pub rows-within : (store : Store) (now draws : ℕ) (id : CmdId) (words : List (List ℕ)) → AllByRecursion IsShort words → AreTimelyWithin now (key_row store now draws id words).records
 rows-within store now draws id words short =
-    rows-all (IsTimelyWithin now) IsShort now (λ key s. (s, tt)) (λ key s. (s, tt)) (λ from to s t. ((s, t), tt)) (expire_at-within now) store draws id words (behind_name-all IsShort words short) (λ flushed. (tt, tt))
+    rows-all (IsTimelyWithin now) IsShort now (λ key s. (s, tt)) (λ key s. (s, tt)) (λ from to s t. ((s, t), tt)) (expire_at-within now) store draws id words (all-keys_named IsShort id words short) (λ flushed. (tt, tt))

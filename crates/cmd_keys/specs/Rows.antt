@@ -1,5 +1,5 @@
 -- The row of each command on keys and on the server.
-use Rattle.std.specs.Prelude.{◌≡◌, ℕ, List, [], ◌∷◌, slice_get}
+use Rattle.std.specs.Prelude.{◌≡◌, ℕ, Bool, true, false, List, [], ◌∷◌, slice_get}
 use Rattle.resp_reply.specs.declared.reply.Reply.{Reply}
 use Rattle.ks_space.specs.Store.{Store}
 use Rattle.cmd_args.specs.declared.commands.CmdId.{CmdId}
@@ -12,6 +12,34 @@ use Rattle.cmd_keys.specs.ServerRows.{ping_row, echo_row, select_row, time_row, 
 use Rattle.cmd_keys.specs.KeyRows.{del_row, exists_row, type_row, keys_row, randomkey_row, rename_row, renamenx_row}
 use Rattle.cmd_keys.specs.declared.expiring.Asked.TheVariants.{MillisLeft, SecondsLeft, Millisecond, Second}
 use Rattle.cmd_keys.specs.DeadlineRows.{expire_row, persist_row, deadline_row}
+
+-- the commands on keys and on the server
+abbrev pub is_of_keys : CmdId → Bool
+is_of_keys Ping = true
+is_of_keys Echo = true
+is_of_keys Select = true
+is_of_keys Time = true
+is_of_keys DbSize = true
+is_of_keys FlushAll = true
+is_of_keys FlushDb = true
+is_of_keys Del = true
+is_of_keys Unlink = true
+is_of_keys Exists = true
+is_of_keys TypeOf = true
+is_of_keys Keys = true
+is_of_keys RandomKey = true
+is_of_keys Rename = true
+is_of_keys RenameNx = true
+is_of_keys Expire = true
+is_of_keys PExpire = true
+is_of_keys ExpireAt = true
+is_of_keys PExpireAt = true
+is_of_keys Persist = true
+is_of_keys PTtl = true
+is_of_keys Ttl = true
+is_of_keys PExpireTime = true
+is_of_keys ExpireTime = true
+is_of_keys _ = false
 
 -- the words behind the name
 abbrev pub behind_name : List (List ℕ) → List (List ℕ)

@@ -1,4 +1,4 @@
-ghost use Rattle.std.specs.Prelude.{◌≡◌, ◌≢◌, ◌↔◌, ◌+◌, ◌-◌, ◌*◌, ◌<◌, ◌≤◌, ◌^◌, ℕ, ℤ, pos, negsuc, List, Some, None, Ok, Err, IsSome, Contains};
+ghost use Rattle.std.specs.Prelude.{◌≡◌, ◌≢◌, ◌↔◌, ◌+◌, ◌-◌, ◌*◌, ◌<◌, ◌≤◌, ◌^◌, ℕ, ℤ, pos, negsuc, true, false, List, [], ◌∷◌, Some, None, Ok, Err, IsSome, Contains, codes, length};
 ghost use Rattle.std.specs.List.{AllByRecursion};
 ghost use Rattle.std.specs.List.Sorted.{IsStrictlySortedBy};
 ghost use Rattle.std.specs.FinMap as finite;
@@ -9,6 +9,9 @@ ghost use Rattle.ks_space.specs.Purge.{IsTimely};
 ghost use Rattle.fx_record.specs.Records.{ChangesOnly, Moves};
 ghost use Rattle.cmd_args.specs.declared.commands.CmdId.{CmdId};
 ghost use Rattle.cmd_args.specs.declared.refusal.Refusal.{Refusal};
+ghost use Rattle.cmd_args.specs.Keys.{keys_named};
+ghost use Rattle.cmd_args.specs.Refusals.{refusal_text};
+ghost use Rattle.cmd_args.specs.Table.{command};
 ghost use Rattle.cmd_glob.specs.Patterns.{parts_of};
 ghost use Rattle.cmd_glob.specs.Matching.{Matches};
 ghost use Rattle.cmd_rows.specs.declared.times.Expiry.{Expiry};
@@ -17,11 +20,11 @@ ghost use Rattle.cmd_rows.specs.Times.{moment, expire_time};
 ghost use Rattle.cmd_rows.specs.Outcomes.{ok, answers, refused};
 ghost use Rattle.cmd_rows.specs.Bounds.{AreTimelyWithin};
 ghost use Rattle.cmd_keys.specs.declared.expiring.Asked.{Asked};
-ghost use Rattle.cmd_keys.specs.ServerRows.{flush_row};
+ghost use Rattle.cmd_keys.specs.ServerRows.{is_flush_mode};
 ghost use Rattle.cmd_keys.specs.KeyRows.{del_row, keys_matching, randomkey_row, rename_row, renamenx_row};
 ghost use Rattle.cmd_keys.specs.DeadlineRows.{expire_row, persist_row, deadline_row};
-ghost use Rattle.cmd_keys.specs.Rows.{behind_name, key_row};
-ghost use Rattle.cmd_keys.specs.Laws.{left_by, KeepsKeys};
+ghost use Rattle.cmd_keys.specs.Rows.{is_of_keys, key_row};
+ghost use Rattle.cmd_keys.specs.Laws.{left_by, KeepsKeys, IsFlush, Empties};
 
 /// The records of a command are within the limits of a store, and give no deadline that is past.
 pub fn key_records_are_within()
@@ -95,8 +98,8 @@ pub fn ttl_gives_what_expire_gave()
         → deadline_row store asked now key ≡ answers (Reply.Int (negsuc 1)) }
 {}
 
-/// DEL and UNLINK: none of the keys exists any longer, and every other key is as it was. The answer counts the keys that existed,
-/// each once.
+/// DEL and UNLINK: none of the keys exists any longer, and every other key is as it was. The answer is by how many keys there are
+/// fewer, so that it counts each key that existed once.
 pub fn del_removes_the_keys()
     ensures gone { (store : Store) (keys : List (List ℕ)) (key : List ℕ) → Contains keys key → finite.get (left_by store (del_row store keys)) key ≡ None }
     ensures others { (store : Store) (keys : List (List ℕ)) (key : List ℕ) → ¬ (Contains keys key)
@@ -105,9 +108,15 @@ pub fn del_removes_the_keys()
         → (n : ℕ) × ((del_row store keys).reply ≡ Reply.Int (pos n)) × (finite.len (left_by store (del_row store keys)) + n ≡ finite.len store) }
 {}
 
-/// FLUSHALL and FLUSHDB: no key exists any longer.
+/// FLUSHALL and FLUSHDB, alone or with ASYNC or SYNC in letters of either case: they answer OK, and no key exists any longer. One
+/// record of it is kept where a key existed, and none where the store was empty. Another word is a syntax error.
 pub fn flush_removes_every_key()
-    ensures { (store : Store) (key : List ℕ) → finite.get (left_by store (flush_row None)) key ≡ None }
+    ensures alone { (store : Store) (now draws : ℕ) (id : CmdId) (name : List ℕ) → IsFlush id → Empties store (key_row store now draws id (name ∷ [])) }
+    ensures with_mode { (store : Store) (now draws : ℕ) (id : CmdId) (name mode : List ℕ) → IsFlush id → is_flush_mode mode ≡ true
+        → Empties store (key_row store now draws id (name ∷ mode ∷ [])) }
+    ensures modes { (is_flush_mode (codes "ASYNC") ≡ true) × (is_flush_mode (codes "SYNC") ≡ true) × (is_flush_mode (codes "async") ≡ true) × (is_flush_mode (codes "sync") ≡ true) }
+    ensures another_word { (store : Store) (now draws : ℕ) (id : CmdId) (name mode : List ℕ) → IsFlush id → is_flush_mode mode ≡ false
+        → key_row store now draws id (name ∷ mode ∷ []) ≡ refused Refusal.Syntax }
 {}
 
 /// KEYS: just the keys that exist and that the pattern matches, each once and in byte order.
@@ -124,8 +133,22 @@ pub fn randomkey_gives_a_key()
     ensures none { (draws : ℕ) → randomkey_row finite.empty draws ≡ answers Reply.NullBulk }
 {}
 
-/// A key that the words behind the name do not name keeps its value and its deadline, whatever the command, other than FLUSHALL and FLUSHDB.
+/// A key that a command does not name keeps its value and its deadline, whatever the command, other than FLUSHALL and FLUSHDB.
+/// What a command names goes by the places of its words: `PEXPIRE k n` names `k` alone, also where another key is `n`.
 pub fn other_keys_are_as_they_were()
-    ensures { (store : Store) (now draws : ℕ) (id : CmdId) (words : List (List ℕ)) (key : List ℕ) → KeepsKeys id → ¬ (Contains (behind_name words) key)
+    ensures { (store : Store) (now draws : ℕ) (id : CmdId) (words : List (List ℕ)) (key : List ℕ) → KeepsKeys id → ¬ (Contains (keys_named id words) key)
         → finite.get (left_by store (key_row store now draws id words)) key ≡ finite.get store key }
+{}
+
+/// A command on keys or on the server that answers a fault does nothing, and takes no draw.
+pub fn a_fault_does_nothing_to_keys()
+    ensures { (store : Store) (now draws : ℕ) (id : CmdId) (words : List (List ℕ)) (text : List ℕ) → (key_row store now draws id words).reply ≡ Reply.Fault text
+        → ((key_row store now draws id words).records ≡ []) × ((key_row store now draws id words).draws ≡ 0) }
+{}
+
+/// Each command on keys and on the server has a row: with the fewest words that it takes, and so without options, none is a
+/// syntax error.
+pub fn each_command_on_keys_has_a_row()
+    ensures { (store : Store) (now draws : ℕ) (id : CmdId) (words : List (List ℕ)) → is_of_keys id ≡ true → length words ≡ (command id).least
+        → (key_row store now draws id words).reply ≢ Reply.Fault (refusal_text Refusal.Syntax) }
 {}

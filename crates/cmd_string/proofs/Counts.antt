@@ -1,11 +1,9 @@
 -- Integers of 64 bits at keys.
-use Rattle.std.proofs.Common.{◌≡◌, ℕ, ◌^◌, ◌<◌, Bool, true, false, cond, List, Option, Some, None, Result, Ok, Err, refl, sym, ap, subst, ◌∙◌, FitsSigned, w64, arith}
+use Rattle.std.proofs.Common.{◌≡◌, ℕ, cond, List, Option, Some, None, Ok, Err, refl, sym, ap, ◌∙◌, FitsSigned, w64, arith}
 use Rattle.std.proofs.lemmas.Fmt.{decimal_digit}
-use Rattle.std.specs.Prelude.{ℤ, pos, negsuc, SomeIff, codes}
+use Rattle.std.specs.Prelude.{ℤ, pos, SomeIff, codes}
 use Rattle.std.specs.Option.{ok_or, unwrap_or}
-use Rattle.std.proofs.lemmas.Bool.{ltb-true, lt-ltb}
 use Rattle.ks_space.specs.Store.{Store}
-use Rattle.cmd_args.specs.declared.refusal.Refusal.{Refusal}
 use Rattle.cmd_args.specs.declared.refusal.Refusal.TheVariants.{Overflow}
 use Rattle.cmd_rows.specs.Numbers.{number, is_within_64}
 use Rattle.cmd_rows.specs.Strings.{string_at}

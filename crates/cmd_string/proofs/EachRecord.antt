@@ -1,18 +1,19 @@
 -- What is so of each record of a command on strings.
-use Rattle.std.proofs.Common.{◌≡◌, ℕ, suc, zero, ◌^◌, ◌<◌, ◌≤◌, Bool, true, false, cond, List, [], ◌∷◌, length, drop, Option, Some, None, Result, Ok, Err, refl, sym, subst, ap, ◌∙◌, arith}
+use Rattle.std.proofs.Common.{◌≡◌, ℕ, suc, zero, ◌^◌, ◌<◌, Bool, true, false, cond, List, [], ◌∷◌, length, drop, Result, Ok, Err, refl, subst}
 use Rattle.std.specs.Prelude.{ℤ, pos, negsuc, nat_lt, nat_le}
 use Rattle.std.specs.List.{AllByRecursion}
 use Rattle.std.proofs.lemmas.Bool.{ltb-true, leb-true, leb-false}
-use Rattle.ks_space.specs.Store.{Store, IsShort, IsDeadline}
+use Rattle.ks_space.specs.Store.{IsShort, IsDeadline}
 use Rattle.fx_record.specs.declared.record.Record.{Record}
 use Rattle.fx_record.specs.declared.record.Record.TheVariants.{Set, SetUntil, SetKeeping, Del, ExpireAt, Persist}
 use Rattle.fx_record.specs.RecordWords.{is_short}
 use Rattle.cmd_args.specs.declared.commands.CmdId.{CmdId}
 use Rattle.cmd_args.specs.declared.refusal.Refusal.{Refusal}
+use Rattle.cmd_args.specs.Keys.{firsts}
 use Rattle.cmd_rows.specs.declared.times.Expiry.{Expiry}
-use Rattle.cmd_rows.specs.Outcomes.{Outcome, with_found, word_at}
+use Rattle.cmd_rows.specs.Outcomes.{Outcome, with_found}
 use Rattle.cmd_rows.specs.Times.{moment, deadline_in, deadline, set_until, expire_at}
-use Rattle.cmd_rows.specs.Strings.{sets_of, sets_in, with_string}
+use Rattle.cmd_rows.specs.Strings.{sets_of, sets_in}
 use Rattle.cmd_string.specs.Found.{then_found}
 
 -- the records of a row
@@ -26,12 +27,6 @@ each-found P (Err why) row each = tt
 pub each-if : (P : Record → Type 0) (b : Bool) (one other : Outcome) → Each P one → Each P other → Each P (cond b one other)
 each-if P true one other met unmet = met
 each-if P false one other met unmet = unmet
-
--- a word of which none of the words is an exception
-pub word_at-each : (W : List ℕ → Type 0) (words : List (List ℕ)) (place : ℕ) (word : List ℕ) → AllByRecursion W words → word_at words place ≡ Ok word → W word
-word_at-each W [] place word all e = absurd (cc)
-word_at-each W (w ∷ words) zero word all e = let same : w ≡ word = cc in subst W same all.0
-word_at-each W (w ∷ words) (suc place) word all e = word_at-each W words place word all.1 e
 
 -- what was found behind something else
 pub found_behind : {X Y : Type 0} (found : Result X Refusal) (next : X → Result Y Refusal) (y : Y) → then_found found next ≡ Ok y → (x : X) × (found ≡ Ok x) × (next x ≡ Ok y)
@@ -62,30 +57,30 @@ deadline-within id kind now n d e = deadline_in-within id n (moment kind now n) 
 pub sized-short : (text : List ℕ) → is_short text ≡ true → IsShort text
 sized-short text e = leb-true (length text) 16777216 e
 
--- what may be done with keys and words of which W is so
-pub record Allows (W : List ℕ → Type 0) (P : Record → Type 0) (now : ℕ) : Type 0 where
-  pub set : (key value : List ℕ) → W key → W value → P (Set key value)
-  pub until : (key value : List ℕ) (at : ℕ) → W key → W value → now < at → IsDeadline at → P (SetUntil key value at)
-  pub keeping_word : (key value : List ℕ) → W key → W value → P (SetKeeping key value)
-  pub keeping : (key value : List ℕ) → W key → IsShort value → P (SetKeeping key value)
-  pub del : (key : List ℕ) → W key → P (Del key)
-  pub expire : (key : List ℕ) (at : ℕ) → W key → now < at → IsDeadline at → P (ExpireAt key at)
-  pub persist : (key : List ℕ) → W key → P (Persist key)
+-- what may be done with keys of which K is so, and values of which V is
+pub record Allows (K V : List ℕ → Type 0) (P : Record → Type 0) (now : ℕ) : Type 0 where
+  pub set : (key value : List ℕ) → K key → V value → P (Set key value)
+  pub until : (key value : List ℕ) (at : ℕ) → K key → V value → now < at → IsDeadline at → P (SetUntil key value at)
+  pub keeping_word : (key value : List ℕ) → K key → V value → P (SetKeeping key value)
+  pub keeping : (key value : List ℕ) → K key → IsShort value → P (SetKeeping key value)
+  pub del : (key : List ℕ) → K key → P (Del key)
+  pub expire : (key : List ℕ) (at : ℕ) → K key → now < at → IsDeadline at → P (ExpireAt key at)
+  pub persist : (key : List ℕ) → K key → P (Persist key)
 
-module _ (W : List ℕ → Type 0) (P : Record → Type 0) (now : ℕ) (allows : Allows W P now) where
-  pub each-set_until : (key value : List ℕ) (at : ℕ) → W key → W value → IsDeadline at → P (set_until key value now at)
+module _ (K V : List ℕ → Type 0) (P : Record → Type 0) (now : ℕ) (allows : Allows K V P now) where
+  pub each-set_until : (key value : List ℕ) (at : ℕ) → K key → V value → IsDeadline at → P (set_until key value now at)
   each-set_until key value at k v within =
       by_test (λ b. P (cond b (Del key) (SetUntil key value at))) (nat_le at now) (λ past. allows.del key k) (λ later. allows.until key value at k v (leb-false at now later) within)
 
-  pub each-expire_at : (key : List ℕ) (at : ℕ) → W key → IsDeadline at → P (expire_at key now (pos at))
+  pub each-expire_at : (key : List ℕ) (at : ℕ) → K key → IsDeadline at → P (expire_at key now (pos at))
   each-expire_at key at k within =
       by_test (λ b. P (cond b (Del key) (ExpireAt key at))) (nat_le at now) (λ past. allows.del key k) (λ later. allows.expire key at k (leb-false at now later) within)
 
-  pub each-sets_of : (words : List (List ℕ)) → AllByRecursion W words → AllByRecursion P (sets_of words)
-  each-sets_of [] all = tt
-  each-sets_of (key ∷ []) all = tt
-  each-sets_of (key ∷ value ∷ words) all = (allows.set key value all.0 all.1.0, each-sets_of words all.1.1)
+  pub each-sets_of : (words : List (List ℕ)) → AllByRecursion K (firsts words) → AllByRecursion V words → AllByRecursion P (sets_of words)
+  each-sets_of [] keys all = tt
+  each-sets_of (key ∷ []) keys all = tt
+  each-sets_of (key ∷ value ∷ words) keys all = (allows.set key value keys.0 all.1.0, each-sets_of words keys.1 all.1.1)
 
-  pub each-sets_in : (words : List (List ℕ)) → AllByRecursion W words → AllByRecursion P (sets_in words)
-  each-sets_in [] all = tt
-  each-sets_in (name ∷ words) all = each-sets_of words all.1
+  pub each-sets_in : (words : List (List ℕ)) → AllByRecursion K (firsts (drop 1 words)) → AllByRecursion V words → AllByRecursion P (sets_in words)
+  each-sets_in [] keys all = tt
+  each-sets_in (name ∷ words) keys all = each-sets_of words keys all.1

@@ -1,6 +1,6 @@
 -- What a GET gives after SET and its kin.
-use Rattle.std.proofs.Common.{◌≡◌, ◌≢◌, ℕ, ◌<◌, ◌≤◌, ◌++◌, length, Bool, true, false, cond, List, [], ◌∷◌, Option, Some, None, Result, Ok, Err, refl, sym, ap, subst, ◌∙◌, true≢false}
-use Rattle.std.specs.Prelude.{ℤ, pos, negsuc, ◌+ℤ◌, ◌-ℤ◌, codes, bytes_eq}
+use Rattle.std.proofs.Common.{◌≡◌, ◌≢◌, ℕ, ◌<◌, ◌≤◌, ◌++◌, length, Bool, true, false, cond, List, [], ◌∷◌, Option, Some, None, Ok, Err, refl, sym, ap, subst, ◌∙◌, true≢false}
+use Rattle.std.specs.Prelude.{ℤ, pos, codes, bytes_eq}
 use Rattle.std.specs.Option.{unwrap_or, ok_or, option_or}
 use Rattle.std.specs.Result.{result_ok}
 use Rattle.std.specs.FinMap as finite
@@ -13,14 +13,13 @@ use Rattle.fx_record.specs.declared.record.Record.{Record}
 use Rattle.fx_record.specs.declared.record.Record.TheVariants.{Set, SetUntil, SetKeeping, Del}
 use Rattle.fx_record.specs.declared.record.Record.TheVariants as effect
 use Rattle.fx_record.specs.Records.{apply, applied, string_entry}
-use Rattle.fx_record.specs.RecordWords.{is_short}
 use Rattle.fx_record.proofs.Stores.{get-insert_same, get-insert_other, get-remove_same}
 use Rattle.cmd_args.specs.declared.commands.CmdId.{CmdId}
 use Rattle.cmd_args.specs.declared.commands.CmdId.TheVariants as command
-use Rattle.cmd_args.specs.declared.refusal.Refusal.TheVariants.{Syntax, NotInteger, TooLong, Overflow}
+use Rattle.cmd_args.specs.declared.refusal.Refusal.TheVariants.{NotInteger, TooLong, Overflow}
 use Rattle.cmd_rows.specs.declared.times.Expiry.{Expiry}
 use Rattle.cmd_rows.specs.declared.times.Expiry.TheVariants.{InSeconds, InMillis, AtSecond, AtMillis}
-use Rattle.cmd_rows.specs.Outcomes.{Outcome, answers, does, refused, with_found, ok}
+use Rattle.cmd_rows.specs.Outcomes.{Outcome, answers, does, with_found, ok}
 use Rattle.cmd_rows.specs.Numbers.{number, is_within_64}
 use Rattle.cmd_rows.specs.Strings.{string_at, with_string, bulk_or_null, sets_of}
 use Rattle.cmd_rows.specs.Times.{deadline, set_until, expire_at}
@@ -29,7 +28,7 @@ use Rattle.cmd_string.specs.Ranges.{written_over}
 use Rattle.cmd_string.specs.Found.{then_found}
 use Rattle.cmd_string.specs.declared.options.Lasting.TheVariants.{Until}
 use Rattle.cmd_string.specs.declared.getex.Change.TheVariants.{ExpireAt}
-use Rattle.cmd_string.specs.StringRows.{set_row, setex_row, getset_row, getdel_row, getex_row, mset_row, has_any, msetnx_row, sized, grown_row, append_row, range_row, setrange_row, integer_at, fitting, kept_row, counted_row}
+use Rattle.cmd_string.specs.StringRows.{set_row, setex_row, getset_row, getdel_row, getex_row, mset_row, has_any, msetnx_row, grown_row, append_row, range_row, setrange_row, integer_at, fitting, kept_row, counted_row}
 use Rattle.cmd_string.specs.StringLaws.{after, Gives, expiry_word, last_string}
 use Rattle.cmd_string.proofs.Given.{gives, gives-put, gives-due, until-later, until-past, expire-later}
 
@@ -93,7 +92,7 @@ change-until now kind word n at e f =
     ap (λ r. then_found (then_found (ok_or (result_ok r) NotInteger) (deadline command.GetEx kind now)) (λ at. Ok (ExpireAt at))) e
     ∙ ap (λ d. then_found d (λ at. Ok (ExpireAt at))) f
 
-change-read : (now : ℕ) (kind : Expiry) (word : List ℕ) (n : ℤ) (at : ℕ) → number word ≡ Ok n → deadline command.GetEx kind now n ≡ Ok at
+pub change-read : (now : ℕ) (kind : Expiry) (word : List ℕ) (n : ℤ) (at : ℕ) → number word ≡ Ok n → deadline command.GetEx kind now n ≡ Ok at
     → getex_change now (expiry_word kind ∷ word ∷ []) ≡ Ok (ExpireAt at)
 change-read now InSeconds word n at e f = change-until now InSeconds word n at e f
 change-read now InMillis word n at e f = change-until now InMillis word n at e f

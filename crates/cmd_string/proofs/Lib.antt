@@ -4,5 +4,7 @@ pub mod EachRow
 pub mod Counts
 pub mod Given
 pub mod GivenBySet
+pub mod GivenByOptions
 pub mod Parts
 pub mod Families
+pub mod RowEnds

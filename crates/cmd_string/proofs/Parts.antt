@@ -1,5 +1,5 @@
 -- Words by their places, and strings by their lengths.
-use Rattle.std.proofs.Common.{◌≡◌, ℕ, suc, zero, ◌+◌, ◌-◌, ◌<◌, ◌≤◌, Bool, true, false, cond, ◌||◌, List, [], ◌∷◌, ◌++◌, length, drop, take, replicate, get_or, refl, sym, ap, ◌∙◌, subst, arith, length-append, length-drop}
+use Rattle.std.proofs.Common.{◌≡◌, ℕ, suc, ◌+◌, ◌<◌, ◌≤◌, false, ◌||◌, List, [], ◌∷◌, length, drop, get_or, refl, sym, ap, ◌∙◌, arith, length-append, length-drop}
 use Rattle.std.proofs.Math.Seq.{drop-cons}
 use Rattle.std.proofs.lemmas.List.{length-take, length-replicate}
 use Rattle.std.specs.Prelude.{◌≢◌, ℤ, pos, negsuc, nat_abs, Result, Ok, Err, MatchResult, IfOk}
@@ -9,13 +9,12 @@ use denote.Ref.{Bor}
 use Rattle.std.specs.FinMap as finite
 use Rattle.std.proofs.lemmas.Bool.{lt-leb}
 use Rattle.ks_space.specs.Store.{Store, IsShort}
-use Rattle.fx_record.specs.RecordWords.{is_short}
 use Rattle.cmd_args.specs.declared.refusal.Refusal.{Refusal}
 use Rattle.cmd_args.specs.declared.refusal.Refusal.TheVariants.{TooLong}
 use Rattle.cmd_rows.specs.Outcomes.{refused, word_at}
 use Rattle.cmd_string.specs.Ranges.{written_over}
 use Rattle.cmd_string.specs.StringRows.{has_any, grown_row, range_row}
-use Rattle.cmd_string.proofs.EachRecord.{word_at-each}
+use Rattle.cmd_rows.proofs.WordPlaces.{word_at-all}
 
 -- the first of two words more is a key
 pub any-step : (store : Store) (words : List (List ℕ)) (place : ℕ) (key : List ℕ) → place + 1 < length words → key ≡ get_or words place key
@@ -47,7 +46,7 @@ too_far key old value offset far =
 -- the word at a place, of words of which none is too long
 pub short-word : (words : List (List ℕ)) (place : ℕ) (found : Result (Bor (List ℕ)) Refusal) → AllByRecursion IsShort words
     → MatchResult found (λ word. word_at words place ≡ Ok word.now) (λ why. word_at words place ≡ Err why) → IfOk found (λ word. IsShort word.now)
-short-word words place (Ok word) all is = word_at-each IsShort words place word.now all is
+short-word words place (Ok word) all is = word_at-all IsShort words place word.now all is
 short-word words place (Err why) all is = tt
 
 pub range-far : (key old value : List ℕ) (at : ℤ) → lt_z at (pos 0) ≡ false → 16777216 < nat_abs at → value ≢ [] → range_row key old at value ≡ refused TooLong

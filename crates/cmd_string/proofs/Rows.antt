@@ -4,7 +4,7 @@ use Rattle.resp_reply.specs.declared.reply.Reply.{Reply}
 use Rattle.resp_reply.specs.declared.reply.Reply.TheVariants.{Fault}
 use Rattle.ks_space.specs.Store.{Store}
 use Rattle.fx_record.specs.declared.record.Record.{Record}
-use Rattle.fx_record.specs.Records.{apply, applied}
+use Rattle.fx_record.specs.Records.{apply}
 use Rattle.fx_record.specs.Settled.{settled}
 use Rattle.cmd_args.specs.Refusals.{refusal_text}
 use Rattle.cmd_args.specs.declared.refusal.Refusal.{Refusal}

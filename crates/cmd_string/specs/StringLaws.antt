@@ -1,14 +1,18 @@
 -- What the laws of the commands on strings speak of.
-use Rattle.std.specs.Prelude.{◌≡◌, ℕ, List, [], ◌∷◌, Option, Some, None, if◌then◌else◌, codes, bytes_eq}
+use Rattle.std.specs.Prelude.{◌≡◌, ℕ, true, List, [], ◌∷◌, Option, Some, None, Ok, if◌then◌else◌, codes, bytes_eq}
 use Rattle.std.specs.Option.{option_or}
 use Rattle.std.specs.FinMap as finite
+use Rattle.resp_reply.specs.declared.reply.Reply.{Reply}
 use Rattle.resp_reply.specs.declared.reply.Reply.TheVariants.{Bulk}
 use Rattle.ks_space.specs.Store.{Store, deadline_at}
 use Rattle.fx_record.specs.Records.{applied}
 use Rattle.cmd_rows.specs.declared.times.Expiry.{Expiry}
 use Rattle.cmd_rows.specs.declared.times.Expiry.TheVariants.{InSeconds, InMillis, AtSecond, AtMillis}
-use Rattle.cmd_rows.specs.Outcomes.{Outcome, answers}
-use Rattle.cmd_string.specs.StringRows.{get_row}
+use Rattle.cmd_rows.specs.Outcomes.{Outcome, answers, ok}
+use Rattle.cmd_rows.specs.Strings.{bulk_or_null}
+use Rattle.cmd_string.specs.declared.options.SetOptions.{SetOptions}
+use Rattle.cmd_string.specs.Options.{set_options, is_met}
+use Rattle.cmd_string.specs.StringRows.{get_row, old_string}
 
 -- the store after a command
 abbrev pub after : Store → Outcome → Store
@@ -18,6 +22,17 @@ after store row = applied store row.records
 pub record Gives (store : Store) (key text : List ℕ) (deadline : Option ℕ) : Type 0 where
   pub get : get_row store key ≡ answers (Bulk text)
   pub deadline_is : deadline_at store key ≡ deadline
+
+-- SET with these words writes: its options are these, the key is as they ask for it to be, and where GET stands the old string
+-- is this one, or none
+pub record Writes (store : Store) (key : List ℕ) (words : List (List ℕ)) (options : SetOptions) (old : Option (List ℕ)) : Type 0 where
+  pub options_are : set_options words ≡ Ok options
+  pub is_asked_for : is_met options.condition (finite.contains_key store key) ≡ true
+  pub old_is : old_string store key options.get ≡ Ok old
+
+-- what it answers then
+abbrev pub written_reply : SetOptions → Option (List ℕ) → Reply
+written_reply options old = if options.get then bulk_or_null old else ok
 
 -- the option whose number is of this kind
 abbrev pub expiry_word : Expiry → List ℕ

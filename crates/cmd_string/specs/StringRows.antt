@@ -1,14 +1,13 @@
 -- The commands on strings, one row each (Redis manual, strings). Rows that stand one in another refuse in that order.
-use Rattle.std.specs.Prelude.{ℕ, ◌+◌, Bool, false, ◌||◌, if◌then◌else◌, ℤ, pos, negsuc, ◌+ℤ◌, ◌-ℤ◌, List, [], ◌∷◌, ◌++◌, length, map, drop, Option, Some, None, Result, Ok, Err, codes}
+use Rattle.std.specs.Prelude.{ℕ, Bool, false, ◌||◌, if◌then◌else◌, ℤ, pos, negsuc, ◌+ℤ◌, ◌-ℤ◌, List, [], ◌∷◌, ◌++◌, length, map, drop, Option, None, Result, Ok, Err, codes}
 use Rattle.std.specs.Option.{unwrap_or}
 use Rattle.std.specs.Result.{result_unwrap_or}
 use Rattle.std.specs.FinMap as finite
 use Rattle.rs_whole.specs.Integers.{integer_text}
-use Rattle.resp_reply.specs.declared.reply.Reply.{Reply, roll-Reply}
+use Rattle.resp_reply.specs.declared.reply.Reply.{roll-Reply}
 use Rattle.resp_reply.specs.declared.reply.Reply.TheVariants.{Int, Bulk}
 use Rattle.resp_reply.specs.declared.reply.Reply.TheOpen.{Reply-F}
 use Rattle.ks_space.specs.Store.{Store}
-use Rattle.fx_record.specs.declared.record.Record.{Record}
 use Rattle.fx_record.specs.declared.record.Record.TheVariants.{Set, SetKeeping, Del}
 use Rattle.fx_record.specs.RecordWords.{is_short}
 use Rattle.cmd_args.specs.declared.commands.CmdId.{CmdId}

@@ -1,5 +1,5 @@
 -- The commands on strings with the words that each takes.
-use Rattle.std.specs.Prelude.{ℕ, ◌+◌, pos, List, drop}
+use Rattle.std.specs.Prelude.{ℕ, pos, Bool, true, false, List, drop}
 use Rattle.ks_space.specs.Store.{Store}
 use Rattle.cmd_args.specs.declared.commands.CmdId.{CmdId}
 use Rattle.cmd_args.specs.declared.commands.CmdId.TheVariants.{Get, Set, SetNx, SetEx, PSetEx, GetSet, GetDel, GetEx, MGet, MSet, MSetNx, Append, StrLen, GetRange, SetRange, Incr, Decr, IncrBy, DecrBy}
@@ -9,6 +9,29 @@ use Rattle.cmd_rows.specs.Numbers.{number}
 use Rattle.cmd_rows.specs.Outcomes.{Outcome, refused, with_found}
 use Rattle.cmd_string.specs.Found.{with_key, with_key_word, with_key_words}
 use Rattle.cmd_string.specs.StringRows.{get_row, mget_row, strlen_row, getrange_row, set_row, setnx_row, setex_row, getset_row, getdel_row, getex_row, mset_row, msetnx_row, append_row, setrange_row, add_row, subtract_row}
+
+-- the commands on strings
+abbrev pub is_of_strings : CmdId → Bool
+is_of_strings Get = true
+is_of_strings Set = true
+is_of_strings SetNx = true
+is_of_strings SetEx = true
+is_of_strings PSetEx = true
+is_of_strings GetSet = true
+is_of_strings GetDel = true
+is_of_strings GetEx = true
+is_of_strings MGet = true
+is_of_strings MSet = true
+is_of_strings MSetNx = true
+is_of_strings Append = true
+is_of_strings StrLen = true
+is_of_strings GetRange = true
+is_of_strings SetRange = true
+is_of_strings Incr = true
+is_of_strings Decr = true
+is_of_strings IncrBy = true
+is_of_strings DecrBy = true
+is_of_strings _ = false
 
 -- those that only read
 abbrev pub reading_row : Store → CmdId → List (List ℕ) → Outcome

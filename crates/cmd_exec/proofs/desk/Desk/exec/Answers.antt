@@ -1,6 +1,4 @@
 use Rattle.std.proofs.Common.{◌≡◌, refl, sym, subst, ◌∙◌}
-use Rattle.ks_space.specs.Store.{IsStore}
-use Rattle.ks_space.specs.Purge.{IsTimely}
 use Rattle.cmd_exec.specs.Worlds.{World, DeskState, IsWorld, worked}
 use Rattle.cmd_exec.specs.Exec.{exec}
 use Rattle.cmd_exec.proofs.Worlds.{cleared_is}
