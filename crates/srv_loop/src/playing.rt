@@ -1,13 +1,12 @@
-ghost use Rattle.std.specs.Prelude.{◌≡◌, ◌⊎◌, ℕ, ◌≤◌, List, ◌∷◌, [], length, IfOk, OnOk, IfErr, IsErrAnd};
+ghost use Rattle.std.specs.Prelude.{◌≡◌, ◌⊎◌, ℕ, ◌≤◌, List, OnOk, IfErr, IsErrAnd};
 ghost use Rattle.rs_outside.specs.declared.status.Status.{Status};
 ghost use Rattle.rs_outside.specs.Faults.{Rose};
 ghost use Rattle.rs_outside.specs.Known.{known_then};
 ghost use Rattle.rs_outside.specs.declared.turn.Turn.{Turn};
-ghost use Rattle.cl_core.specs.Machine.{step};
 ghost use Rattle.srv_loop.specs.Session.{IsSession, IsBadLine};
-ghost use Rattle.srv_loop.specs.Runs.{logged_in, log_bytes};
-ghost use Rattle.srv_loop.specs.Transcript.{row_lines, transcript, ending};
-ghost use Rattle.srv_loop.specs.Taking.{CutsTurn, TookPrefix};
+ghost use Rattle.srv_loop.specs.Runs.{log_bytes};
+ghost use Rattle.srv_loop.specs.Transcript.{transcript, ending};
+ghost use Rattle.srv_loop.specs.Taking.{TookPrefix};
 ghost use Rattle.srv_loop.specs.Play.{Plays, CutsPlay, StopsAnywhere, IsPlayStatus};
 ghost use Rattle.srv_loop.specs.Stops.{Stops, Never};
 
