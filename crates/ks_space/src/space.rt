@@ -7,7 +7,7 @@ ghost use Rattle.ks_space.specs.Purge.{gone, purged};
 use crate::Entry;
 use crate::deadlines::{Deadlines, Due};
 use crate::iter::Iter;
-use crate::table::{Table, same};
+use crate::table::Table;
 use rs_base::{Bytes, NoMemory, Words};
 use std::alloc::Global;
 use std::marker::Model;
@@ -67,22 +67,6 @@ impl Space {
         ensures kept { IfOk result (λ old. IfSome old IsKept) }
         ensures ok { OnOk result (self.new ≡ finite.insert self.old key entry) }
         // Only a key that is new, or whose deadline changes, can want memory.
-        ensures room { OnErr result (option_map (λ old. old.deadline) (finite.get self.old key) ≢ Some entry.deadline) }
-        ensures err { OnErr result (self.new ≡ self.old) }
-    {
-        match self.table.replace(key.as_slice(), entry) {
-            Ok(old) => Ok(Some(old)),
-            Err(entry) => self.enter(key, entry),
-        }
-    }
-
-    // The same, also where the index of the deadlines changes.
-    fn enter(&mut self, key: Bytes, entry: Entry) -> Result<Option<Entry>, NoMemory>
-        requires key { IsKey key }
-        requires entry { IsKept entry }
-        ensures old { IfOk result (λ old. old ≡ finite.get self.old key) }
-        ensures kept { IfOk result (λ old. IfSome old IsKept) }
-        ensures ok { OnOk result (self.new ≡ finite.insert self.old key entry) }
         ensures room { OnErr result (option_map (λ old. old.deadline) (finite.get self.old key) ≢ Some entry.deadline) }
         ensures err { OnErr result (self.new ≡ self.old) }
     {
@@ -221,4 +205,10 @@ impl Space {
     {
         self.table.iter()
     }
+}
+
+fn same(one: Option<u64>, other: Option<u64>) -> bool
+    ensures { IsTrue result ↔ (one ≡ other) }
+{
+    one == other
 }

@@ -1,4 +1,4 @@
-ghost use Rattle.std.specs.Prelude.{◌≡◌, ◌≢◌, ◌↔◌, IsTrue, OnOk, OnErr, IfOk, IfErr, IfSome, Some, None, slice_get};
+ghost use Rattle.std.specs.Prelude.{◌≡◌, OnOk, OnErr, IfOk, IfSome, None, slice_get};
 ghost use Rattle.std.specs.Option.{option_copied, option_map};
 ghost use Rattle.std.specs.FinMap as finite;
 ghost use Rattle.ks_space.specs.Store.{deadline_at, with_deadline};
@@ -9,7 +9,6 @@ use rs_base::{Bytes, NoMemory, Words};
 use std::alloc::{AllocError, Global};
 use std::collections::BTreeMap;
 use std::marker::Model;
-use std::mem;
 
 /// Keys with their entries, without an index of the deadlines. Contracts see it as a finite map in the order of the keys' bytes.
 #[derive(Drop)]
@@ -57,24 +56,6 @@ impl Table {
     {
         let old = self.entries.insert(key.into_vec(), entry)?;
         Ok(old)
-    }
-
-    /// Gives a key that is there an entry of the same deadline, and answers the one that it had. `Err`, with the entry,
-    /// exactly where the key is absent or has another deadline, which changes nothing.
-    pub fn replace(&mut self, key: &[u8], entry: Entry) -> Result<Entry, Entry>
-        ensures old { IfOk result (λ old. (finite.get self.old key.now ≡ Some old) × (old.deadline ≡ entry.deadline)) }
-        ensures ok { OnOk result (self.new ≡ finite.insert self.old key.now entry) }
-        ensures back { IfErr result (λ back. back ≡ entry) }
-        ensures other { OnErr result (option_map (λ old. old.deadline) (finite.get self.old key.now) ≢ Some entry.deadline) }
-        ensures err { OnErr result (self.new ≡ self.old) }
-    {
-        let Some(known) = self.entries.get_mut(key) else {
-            return Err(entry);
-        };
-        if same(known.deadline, entry.deadline) {
-            return Ok(mem::replace(known, entry));
-        }
-        Err(entry)
     }
 
     /// Removes a key, and answers it with its entry: `None` exactly where the key is absent.
@@ -159,11 +140,4 @@ impl Clone for Table {
             entries: self.entries.clone()?,
         })
     }
-}
-
-/// Whether two deadlines are the same.
-pub fn same(one: Option<u64>, other: Option<u64>) -> bool
-    ensures { IsTrue result ↔ (one ≡ other) }
-{
-    one == other
 }
