@@ -1,4 +1,5 @@
 pub mod Table
+pub mod Entries
 pub mod Refusals
 pub mod Draws
 pub mod Keys

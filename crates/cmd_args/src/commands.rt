@@ -130,7 +130,7 @@ impl Row {
         ensures { result ≡ fits self.now (length words.now) }
     {
         let count = words.len();
-        let in_pairs = self.id.takes_pairs();
+        let in_pairs = self.id.entry().in_pairs;
         self.least as usize <= count && count <= self.most as usize && (!in_pairs || count % 2 == 1)
     }
 }
@@ -140,15 +140,14 @@ impl CmdId {
     pub fn row(self) -> Row
         ensures { result ≡ row_of self }
     {
-        let (least, most) = self.word_limits();
-        let client_only = self.is_client_only();
+        let entry = self.entry();
         Row {
             id: self,
-            least,
-            most,
-            writes: !self.only_reads(),
-            in_script: !client_only,
-            client_only,
+            least: entry.least,
+            most: entry.most,
+            writes: entry.writes,
+            in_script: !entry.client_only,
+            client_only: entry.client_only,
         }
     }
 

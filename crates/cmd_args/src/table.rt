@@ -1,130 +1,140 @@
-ghost use Rattle.std.specs.Prelude.{◌≡◌, not};
-ghost use Rattle.cmd_args.specs.Table.{command};
+ghost use Rattle.std.specs.Prelude.{◌≡◌};
+ghost use Rattle.cmd_args.specs.Table.{command, reads, writes, writes_pairs, serves_clients};
+ghost use Rattle.cmd_args.specs.Entries.{Enters};
 
 use crate::CmdId;
 
+/// What the table has of a command.
+#[derive(Clone, Copy)]
+pub(crate) struct Entry {
+    /// The name, in lower case.
+    pub(crate) name: &'static [u8],
+    /// The least number of words, the name counted.
+    pub(crate) least: u32,
+    /// The most words, the name counted; `u32::MAX` where the manual sets no limit.
+    pub(crate) most: u32,
+    /// Whether the words behind the name come in pairs.
+    pub(crate) in_pairs: bool,
+    /// Whether the command may change the store.
+    pub(crate) writes: bool,
+    /// Whether it is for clients alone, and not for scripts.
+    pub(crate) client_only: bool,
+}
+
 impl CmdId {
-    /// The command's name, in lower case.
+    /// The table of commands: what it has of this one.
     #[tactic(auto, unfolding(crate::specs::Table::command))]
+    pub(crate) fn entry(self) -> Entry
+        ensures { Enters result (command self) }
+    {
+        match self {
+            CmdId::Ping => reads(b"ping", 1, 2),
+            CmdId::Echo => reads(b"echo", 2, 2),
+            CmdId::Select => reads(b"select", 2, 2),
+            CmdId::Time => reads(b"time", 1, 1),
+            CmdId::DbSize => reads(b"dbsize", 1, 1),
+            CmdId::FlushAll => writes(b"flushall", 1, 2),
+            CmdId::FlushDb => writes(b"flushdb", 1, 2),
+            CmdId::Quit => serves_clients(b"quit", 1, 1),
+            CmdId::Get => reads(b"get", 2, 2),
+            CmdId::Set => writes(b"set", 3, 7),
+            CmdId::SetNx => writes(b"setnx", 3, 3),
+            CmdId::SetEx => writes(b"setex", 4, 4),
+            CmdId::PSetEx => writes(b"psetex", 4, 4),
+            CmdId::GetSet => writes(b"getset", 3, 3),
+            CmdId::GetDel => writes(b"getdel", 2, 2),
+            CmdId::GetEx => writes(b"getex", 2, 4),
+            CmdId::MGet => reads(b"mget", 2, u32::MAX),
+            CmdId::MSet => writes_pairs(b"mset", 3, u32::MAX),
+            CmdId::MSetNx => writes_pairs(b"msetnx", 3, u32::MAX),
+            CmdId::Append => writes(b"append", 3, 3),
+            CmdId::StrLen => reads(b"strlen", 2, 2),
+            CmdId::GetRange => reads(b"getrange", 4, 4),
+            CmdId::SetRange => writes(b"setrange", 4, 4),
+            CmdId::Incr => writes(b"incr", 2, 2),
+            CmdId::Decr => writes(b"decr", 2, 2),
+            CmdId::IncrBy => writes(b"incrby", 3, 3),
+            CmdId::DecrBy => writes(b"decrby", 3, 3),
+            CmdId::Del => writes(b"del", 2, u32::MAX),
+            CmdId::Unlink => writes(b"unlink", 2, u32::MAX),
+            CmdId::Exists => reads(b"exists", 2, u32::MAX),
+            CmdId::TypeOf => reads(b"type", 2, 2),
+            CmdId::Keys => reads(b"keys", 2, 2),
+            CmdId::RandomKey => reads(b"randomkey", 1, 1),
+            CmdId::Rename => writes(b"rename", 3, 3),
+            CmdId::RenameNx => writes(b"renamenx", 3, 3),
+            CmdId::Expire => writes(b"expire", 3, 3),
+            CmdId::PExpire => writes(b"pexpire", 3, 3),
+            CmdId::ExpireAt => writes(b"expireat", 3, 3),
+            CmdId::PExpireAt => writes(b"pexpireat", 3, 3),
+            CmdId::Persist => writes(b"persist", 2, 2),
+            CmdId::PTtl => reads(b"pttl", 2, 2),
+            CmdId::Ttl => reads(b"ttl", 2, 2),
+            CmdId::PExpireTime => reads(b"pexpiretime", 2, 2),
+            CmdId::ExpireTime => reads(b"expiretime", 2, 2),
+        }
+    }
+
+    /// The command's name, in lower case.
     pub fn name(self) -> &'static [u8]
         ensures { result.now ≡ (command self).name }
     {
-        match self {
-            CmdId::Ping => b"ping",
-            CmdId::Echo => b"echo",
-            CmdId::Select => b"select",
-            CmdId::Time => b"time",
-            CmdId::DbSize => b"dbsize",
-            CmdId::FlushAll => b"flushall",
-            CmdId::FlushDb => b"flushdb",
-            CmdId::Quit => b"quit",
-            CmdId::Get => b"get",
-            CmdId::Set => b"set",
-            CmdId::SetNx => b"setnx",
-            CmdId::SetEx => b"setex",
-            CmdId::PSetEx => b"psetex",
-            CmdId::GetSet => b"getset",
-            CmdId::GetDel => b"getdel",
-            CmdId::GetEx => b"getex",
-            CmdId::MGet => b"mget",
-            CmdId::MSet => b"mset",
-            CmdId::MSetNx => b"msetnx",
-            CmdId::Append => b"append",
-            CmdId::StrLen => b"strlen",
-            CmdId::GetRange => b"getrange",
-            CmdId::SetRange => b"setrange",
-            CmdId::Incr => b"incr",
-            CmdId::Decr => b"decr",
-            CmdId::IncrBy => b"incrby",
-            CmdId::DecrBy => b"decrby",
-            CmdId::Del => b"del",
-            CmdId::Unlink => b"unlink",
-            CmdId::Exists => b"exists",
-            CmdId::TypeOf => b"type",
-            CmdId::Keys => b"keys",
-            CmdId::RandomKey => b"randomkey",
-            CmdId::Rename => b"rename",
-            CmdId::RenameNx => b"renamenx",
-            CmdId::Expire => b"expire",
-            CmdId::PExpire => b"pexpire",
-            CmdId::ExpireAt => b"expireat",
-            CmdId::PExpireAt => b"pexpireat",
-            CmdId::Persist => b"persist",
-            CmdId::PTtl => b"pttl",
-            CmdId::Ttl => b"ttl",
-            CmdId::PExpireTime => b"pexpiretime",
-            CmdId::ExpireTime => b"expiretime",
-        }
+        self.entry().name
     }
+}
 
-    /// The least and the most words, the name counted; `u32::MAX` where the manual sets no limit.
-    #[tactic(auto, unfolding(crate::specs::Table::command))]
-    pub(crate) fn word_limits(self) -> (u32, u32)
-        ensures least { result.0 ≡ (command self).least }
-        ensures most { result.1 ≡ (command self).most }
-    {
-        match self {
-            CmdId::Time | CmdId::DbSize | CmdId::Quit | CmdId::RandomKey => (1, 1),
-            CmdId::Ping | CmdId::FlushAll | CmdId::FlushDb => (1, 2),
-            CmdId::GetEx => (2, 4),
-            CmdId::MGet | CmdId::Del | CmdId::Unlink | CmdId::Exists => (2, u32::MAX),
-            CmdId::SetNx
-            | CmdId::GetSet
-            | CmdId::Append
-            | CmdId::IncrBy
-            | CmdId::DecrBy
-            | CmdId::Rename
-            | CmdId::RenameNx
-            | CmdId::Expire
-            | CmdId::PExpire
-            | CmdId::ExpireAt
-            | CmdId::PExpireAt => (3, 3),
-            CmdId::Set => (3, 7),
-            CmdId::MSet | CmdId::MSetNx => (3, u32::MAX),
-            CmdId::SetEx | CmdId::PSetEx | CmdId::GetRange | CmdId::SetRange => (4, 4),
-            _ => (2, 2),
-        }
+// A command that only reads.
+fn reads(name: &'static [u8], least: u32, most: u32) -> Entry
+    ensures { Enters result (reads name.now least most) }
+{
+    Entry {
+        name,
+        least,
+        most,
+        in_pairs: false,
+        writes: false,
+        client_only: false,
     }
+}
 
-    #[tactic(auto, unfolding(crate::specs::Table::command))]
-    pub(crate) fn only_reads(self) -> bool
-        ensures { not result ≡ (command self).writes }
-    {
-        matches!(
-            self,
-            CmdId::Ping
-                | CmdId::Echo
-                | CmdId::Select
-                | CmdId::Time
-                | CmdId::DbSize
-                | CmdId::Quit
-                | CmdId::Get
-                | CmdId::MGet
-                | CmdId::StrLen
-                | CmdId::GetRange
-                | CmdId::Exists
-                | CmdId::TypeOf
-                | CmdId::Keys
-                | CmdId::RandomKey
-                | CmdId::PTtl
-                | CmdId::Ttl
-                | CmdId::PExpireTime
-                | CmdId::ExpireTime
-        )
+// One that may change the store.
+fn writes(name: &'static [u8], least: u32, most: u32) -> Entry
+    ensures { Enters result (writes name.now least most) }
+{
+    Entry {
+        name,
+        least,
+        most,
+        in_pairs: false,
+        writes: true,
+        client_only: false,
     }
+}
 
-    #[tactic(auto, unfolding(crate::specs::Table::command))]
-    pub(crate) fn takes_pairs(self) -> bool
-        ensures { result ≡ (command self).in_pairs }
-    {
-        matches!(self, CmdId::MSet | CmdId::MSetNx)
+// One that takes pairs of words behind its name, and may change the store.
+fn writes_pairs(name: &'static [u8], least: u32, most: u32) -> Entry
+    ensures { Enters result (writes_pairs name.now least most) }
+{
+    Entry {
+        name,
+        least,
+        most,
+        in_pairs: true,
+        writes: true,
+        client_only: false,
     }
+}
 
-    #[tactic(auto, unfolding(crate::specs::Table::command))]
-    pub(crate) fn is_client_only(self) -> bool
-        ensures only { result ≡ (command self).client_only }
-        ensures no_script { not result ≡ (command self).in_script }
-    {
-        matches!(self, CmdId::Quit)
+// One that a client alone may send.
+fn serves_clients(name: &'static [u8], least: u32, most: u32) -> Entry
+    ensures { Enters result (serves_clients name.now least most) }
+{
+    Entry {
+        name,
+        least,
+        most,
+        in_pairs: false,
+        writes: false,
+        client_only: true,
     }
 }
