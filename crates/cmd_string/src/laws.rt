@@ -65,10 +65,10 @@ pub fn set_asks_first()
         → ((set_row store now key value (codes "GET" ∷ [])).reply ≡ bulk_or_null old) × Gives (after store (set_row store now key value (codes "GET" ∷ []))) key value None }
 {}
 
-/// SET with all its options, in any order. Where NX and XX allow it, a GET gives the string after it; without an option for it the
+/// SET with the options that its words give. Where NX and XX allow it, a GET gives the string after it; without an option for it the
 /// key has no deadline, with KEEPTTL the one that it had, and with EX, PX, EXAT or PXAT the one that its number gives; where that
 /// is not past the time, the key does not exist. The reply is OK, and with GET the old string. Where NX or XX does not allow it,
-/// nothing is done.
+/// the store stays as it was.
 pub fn set_does_as_its_options_say()
     ensures plain { (store : Store) (now : ℕ) (key value : List ℕ) (words : List (List ℕ)) (options : SetOptions) (old : Option (List ℕ))
         → Writes store key words options old → options.lasting ≡ None
@@ -121,7 +121,8 @@ pub fn getdel_and_getex()
 {}
 
 /// After APPEND a GET gives the old string and the value behind it, and after SETRANGE the old string with the value in it.
-/// The key keeps the deadline that it had. A string that would be too long is refused; SETRANGE without a value changes nothing.
+/// The key keeps the deadline that it had. An APPEND that would make more than 16,777,216 bytes is refused; SETRANGE without a value
+/// changes nothing.
 pub fn strings_grow()
     ensures append { (store : Store) (key value : List ℕ) (old : Option (List ℕ)) → string_at store key ≡ Ok old → IsShort (unwrap_or old [] ++ value)
         → Gives (after store (append_row store key value)) key (unwrap_or old [] ++ value) (deadline_at store key) }

@@ -9,7 +9,7 @@ ghost use Rattle.lua_grammar.specs.Trees.{IsTree, HasTree};
 ghost use Rattle.lua_grammar.specs.Stops.{Begins, StopsAt};
 
 /// Words that have a tree have no stop, and each front of them begins a text.
-pub fn a_tree_or_a_stop()
+pub fn a_tree_has_no_stop()
     ensures no_stop { (words : List Word) (block : List Stat) (bodies : List Body) (last_line line : ℕ) (kind : SyntaxKind)
         → IsTree every_rule words block bodies → StopsAt words last_line line kind → ⊥ }
     ensures front { (front back : List Word) (block : List Stat) (bodies : List Body)

@@ -6,7 +6,7 @@ use Rattle.lua_grammar.specs.declared.statements.Body.{Body}
 use Rattle.lua_grammar.specs.Contexts.{every_rule}
 use Rattle.lua_grammar.specs.Trees.{IsTree}
 use Rattle.lua_grammar.specs.Stops.{StopsAt, at_word, at_end}
-use Rattle.lua_grammar.proofs.laws.a_tree_or_a_stop.Goals as goal
+use Rattle.lua_grammar.proofs.laws.a_tree_has_no_stop.Goals as goal
 
 no_stop : {words : List Word} {last_line line : ℕ} {kind : SyntaxKind} (block : List Stat) (bodies : List Body)
     → IsTree every_rule words block bodies → StopsAt words last_line line kind → ⊥
