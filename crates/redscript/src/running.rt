@@ -20,8 +20,8 @@ use std::alloc::Global;
 /// Runs the program on the words of its command line, without its own name.
 ///
 /// `play LOG`, where LOG is not empty, reads a session from `input` to its end, judges all of its lines, begins the log
-/// under the name LOG, takes the turns, and writes each one's bytes to `log` and then its lines of the transcript to
-/// `out`, and at last the count of turns, keys and log bytes and the dump of the store.
+/// under the name LOG, takes the turns, and writes, for many turns at a time, their bytes to `log` and then their lines of
+/// the transcript to `out`, and at last the count of turns, keys and log bytes and the dump of the store.
 ///
 /// `replay` reads an effect log from `input` to its end, carries out its whole groups on an empty store, and writes to
 /// `out` the count of groups and keys and the dump of the store. It calls nothing of `log`.
