@@ -5,8 +5,9 @@ Run it at the top of the repository after `rt ci`, which leaves the program at c
 does one kind of work and tells how much it found, which is compared here, and how many microseconds the work took, without
 what it made before. Keys, fields and members have 16 bytes, strings too. A purge is to cost for the keys that leave alone,
 and an item of a large value not much more than one of a small value: MANY items once against FEW items many times.
-Each work is done RUNS times; the best time counts, as the others measure the machine. The processor's time beside it is that
-of the whole run, with what is made before and let go after, and does not grow with the machine's other work as much.
+Each work is done RUNS times; the best time counts, as the others measure the machine. Large and small values take turns, PAIRS
+times, since the machine's other work comes and goes and would else fall on one of the two. The processor's time beside a time
+is that of the whole run, with what is made before and let go after, and does not grow with the machine's other work as much.
 """
 import os
 import subprocess
@@ -18,6 +19,7 @@ PROGRAM = program("ks_timing")
 MANY = 1_000_000
 FEW = 1_000
 PURGES = 1_000
+PAIRS = 15
 # The work over MANY items, how many rounds of it, and what is found.
 STORE = [("put", 1, MANY), ("take", 1, MANY), ("purge", PURGES, 10 * PURGES), ("scores", 1, MANY), ("ranks", 1, MANY)]
 NAMES = {
@@ -64,11 +66,11 @@ def store_table(folder):
 
 
 def values_table(folder):
-    text = (f"| value | {MANY:,} items, best of {RUNS} | {MANY // FEW:,} times {FEW:,} items | ratio | ratio of the processor's |\n"
+    text = (f"| value | {MANY:,} items, best of {PAIRS} | {MANY // FEW:,} times {FEW:,} items | ratio | ratio of the processor's |\n"
             "|---|---|---|---|---|\n")
     for task, each in VALUES.items():
-        many, many_processor, _ = measure(folder, task, MANY, 1, each * MANY)
-        few, few_processor, _ = measure(folder, task, FEW, MANY // FEW, each * MANY)
+        pairs = [(work(folder, task, MANY, 1, each * MANY), work(folder, task, FEW, MANY // FEW, each * MANY)) for _ in range(PAIRS)]
+        (many, many_processor), (few, few_processor) = [[min(run[at] for run in runs) for at in (0, 1)] for runs in zip(*pairs)]
         text += f"| {task} | {many:.3f} s | {few:.3f} s | {many / few:.2f} | {many_processor / few_processor:.2f} |\n"
     return text
 
