@@ -3,6 +3,7 @@ ghost use Rattle.std.specs.Iterator.{YieldsFirstBy, item_count};
 ghost use Rattle.std.specs.VecDeque.Iter.{deque_iter_rest};
 ghost use Rattle.std.proofs.lemmas.Map.Lookups.{map_keys};
 
+use crate::member::Member;
 use indexmap::map;
 use ks_tree::TreeList;
 use rs_base::Bytes;
@@ -85,7 +86,7 @@ impl<'a> Iterator for HashIter<'a> {
 /// are left.
 #[derive(Drop)]
 pub struct SetIter<'a> {
-    members: &'a TreeList<Bytes>,
+    members: &'a TreeList<Member>,
     /// How many were given.
     given: usize,
 }
@@ -99,7 +100,7 @@ impl<'a> Model for SetIter<'a> {
 }
 
 impl<'a> SetIter<'a> {
-    pub(crate) fn new(members: &'a TreeList<Bytes>) -> SetIter<'a>
+    pub(crate) fn new(members: &'a TreeList<Member>) -> SetIter<'a>
         ensures { result ≡ members.now }
     {
         SetIter { members, given: 0 }

@@ -5,6 +5,7 @@ mod hash;
 mod iter;
 mod laws;
 mod list;
+mod member;
 mod set;
 #[cfg(test)]
 mod tests;

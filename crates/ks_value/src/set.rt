@@ -6,6 +6,7 @@ ghost use Rattle.ks_tree.specs.Order.{bytes_cmp};
 ghost use Rattle.ks_value.specs.Members.{IsAscending, is_member, insert_member, remove_member};
 
 use crate::SetIter;
+use crate::member::Member;
 use ks_tree::TreeList;
 use rs_base::{Bytes, NoMemory};
 use std::alloc::{AllocError, Global};
@@ -15,7 +16,8 @@ use std::marker::Model;
 /// inserted, removed or reached by its place in time of the number's logarithm.
 #[derive(Debug, Drop)]
 pub struct SetValue {
-    members: TreeList<Bytes>,
+    alloc: Global,
+    members: TreeList<Member>,
 }
 
 impl Model for SetValue {
@@ -33,7 +35,7 @@ impl Model for SetValue {
 }
 
 /// Whether a member stands before another string in byte order.
-fn is_below(member: &Bytes, other: &[u8]) -> bool
+fn is_below(member: &Member, other: &[u8]) -> bool
     ensures { result ≡ is_lt (bytes_cmp member.now other.now) }
 {
     member.as_slice() < other
@@ -45,6 +47,7 @@ impl SetValue {
         ensures { result ≡ [] }
     {
         SetValue {
+            alloc,
             members: TreeList::new(alloc),
         }
     }
@@ -101,7 +104,8 @@ impl SetValue {
         if self.stands_at(place, text) {
             return Ok(false);
         }
-        self.members.insert(place, member)?;
+        let kept = Member::from_bytes(self.alloc, member);
+        self.members.insert(place, kept)?;
         Ok(true)
     }
 
@@ -181,6 +185,7 @@ impl Clone for SetValue {
 
     fn clone(&self) -> Result<SetValue, AllocError> {
         Ok(SetValue {
+            alloc: self.alloc,
             members: self.members.clone()?,
         })
     }

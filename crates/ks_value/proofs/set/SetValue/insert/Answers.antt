@@ -2,6 +2,7 @@ use Rattle.std.proofs.Common.{◌≡◌, ◌∙◌, ap, sym, subst, not, insert}
 use Rattle.ks_value.specs.Members.{IsAscending, insert_member}
 use Rattle.ks_value.proofs.Sets.{is_member-stands, insert_member-present, insert_member-at, IsAscending-insert_member}
 use Rattle.ks_value.proofs.set.SetValue.insert.Goals as goal
+use Rattle.ks_value.proofs.set.SetValue.insert.Goals.{In_ok-insert}
 
 pub returns-then-stands_at-clause-new : goal.returns-then-stands_at-clause-new
 returns-then-stands_at-clause-new c =
@@ -14,9 +15,10 @@ returns-then-stands_at-clause-ok c =
     sym (insert_member-present c.args.self.now c.args.member c.as_slice-text.result.now c.place_of-place.result c.stands_at.result c.place_of-place.ensures.ascending
     c.as_slice-text.ensures.value c.place_of-place.ensures.value c.stands_at.ensures c.if-stands_at.true)
 
-inserted : (c : goal.In_ok-insert) → c.insert.new.self ≡ insert_member c.args.self.now c.args.member
+inserted : (c : In_ok-insert) → c.insert.new.self ≡ insert_member c.args.self.now c.args.member
 inserted c =
-    c.in_ok-insert.ensures.ok ∙ ap (λ members. insert members c.place_of-place.result c.args.member) c.self.view_is
+    c.in_ok-insert.ensures.ok ∙ ap (insert c.self.inside.members c.place_of-place.result) c.from_bytes-kept.ensures
+    ∙ ap (λ members. insert members c.place_of-place.result c.args.member) c.self.view_is
     ∙ insert_member-at c.args.self.now c.args.member c.as_slice-text.result.now c.place_of-place.result c.stands_at.result c.place_of-place.ensures.ascending c.as_slice-text.ensures.value
     c.place_of-place.ensures.value c.stands_at.ensures c.if-stands_at.false
 
