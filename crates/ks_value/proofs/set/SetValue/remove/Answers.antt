@@ -20,7 +20,7 @@ pub returns-clause-value : goal.returns-clause-value
 returns-clause-value c =
     sym c.if-not-stands_at.false ∙ is_member-stands c.args.self.now c.args.member.now c.args.member.now c.place_of-place.result c.stands_at.result c.place_of-place.ensures.ascending refl c.place_of-place.ensures.value c.stands_at.ensures
 
-removed : (c : goal.After-drop-remove) → c.remove.new.self ≡ remove_member c.args.self.now c.args.member.now
+removed : (c : goal.Joined-remove) → c.remove.new.self ≡ remove_member c.args.self.now c.args.member.now
 removed c =
     c.remove.ensures.rest ∙ ap (λ members. remove members c.place_of-place.result) c.self.view_is
     ∙ remove_member-at c.args.self.now c.args.member.now c.args.member.now c.place_of-place.result c.stands_at.result c.place_of-place.ensures.ascending refl c.place_of-place.ensures.value c.stands_at.ensures c.if-not-stands_at.false
