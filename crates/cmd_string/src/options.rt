@@ -1,7 +1,7 @@
 ghost use Rattle.std.specs.Prelude.{◌≡◌, IfOk};
 ghost use Rattle.ks_space.specs.Store.{IsShort, IsDeadline};
 ghost use Rattle.fx_record.specs.RecordWords.{IsRecord};
-ghost use Rattle.cmd_string.specs.Options.{is_word, expiry_named, set_word, with_option, with_word, with_words, no_option, complete, set_options, deadline_read, set_effect, is_met};
+ghost use Rattle.cmd_string.specs.Options.{is_word, expiry_named, set_word, with_option, with_word, with_words, no_option, complete, set_options, deadline_read, set_effect};
 
 use cmd_args::{CmdId, Refusal};
 use cmd_rows::{Expiry, deadline, number, set_until};
@@ -211,16 +211,5 @@ pub(crate) fn set_effect(
             let at = deadline_read(CmdId::Set, now, kind, read)?;
             Ok(set_until(key, value, now, at))
         }
-    }
-}
-
-/// Whether a key that is there, or absent, is as SET asks for it to be.
-pub(crate) fn is_met(condition: Option<Condition>, there: bool) -> bool
-    ensures { result ≡ is_met condition there }
-{
-    match condition {
-        None => true,
-        Some(Condition::IfAbsent) => !there,
-        Some(Condition::IfThere) => there,
     }
 }

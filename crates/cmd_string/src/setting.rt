@@ -2,9 +2,10 @@ ghost use Rattle.std.specs.Prelude.{◌≡◌, Ok, Err, MatchResult, option_copi
 ghost use Rattle.std.specs.FinMap as finite;
 ghost use Rattle.ks_space.specs.Store.{IsShort};
 ghost use Rattle.cmd_rows.specs.Deeds.{IfAnswered, Did};
+ghost use Rattle.cmd_string.specs.Options.{is_met};
 ghost use Rattle.cmd_string.specs.StringRows.{old_string, set_row, setnx_row, setex_row, getset_row};
 
-use crate::options::{is_met, set_effect, set_options};
+use crate::options::{Condition, set_effect, set_options};
 use cmd_args::{CmdId, Refusal};
 use cmd_rows::{Expiry, Stop, bulk_or_null, deadline, number, ok, set_until, string_at};
 use fx_record::{Effects, Record, carry_out};
@@ -31,7 +32,7 @@ pub(crate) fn set(
     let effect = set_effect(now, key.clone()?, value.clone()?, options.lasting)?;
     let text = old_string(space, key, options.get)?;
     let old = bulk_or_null(text)?;
-    if !is_met(options.condition, is_there(space, key)) {
+    if !is_met(options.condition, space, key) {
         return Ok(old);
     }
     carry_out(space, effects, effect)?;
@@ -43,6 +44,17 @@ fn old_string<'a>(space: &'a Space, key: &Bytes, get: bool) -> Result<Option<&'a
     ensures { MatchResult result (λ text. old_string space.now key.now get ≡ Ok (option_copied text)) (λ why. old_string space.now key.now get ≡ Err why) }
 {
     if get { string_at(space, key) } else { Ok(None) }
+}
+
+// Whether the key is as SET asks for it to be. Without a condition it is not looked up.
+fn is_met(condition: Option<Condition>, space: &Space, key: &Bytes) -> bool
+    ensures { result ≡ is_met condition (finite.contains_key space.now key.now) }
+{
+    match condition {
+        None => true,
+        Some(Condition::IfAbsent) => !is_there(space, key),
+        Some(Condition::IfThere) => is_there(space, key),
+    }
 }
 
 /// Whether a key is there, of whatever kind.

@@ -1,3 +1,6 @@
+ghost use Rattle.std.specs.Prelude.{◌≡◌, ◌∷◌, [], ◌++◌, OnOk};
+ghost use Rattle.rs_base.specs.Escape.{spelling};
+
 use crate::line::{Line, Turn};
 use anyhow::{Result, bail};
 use cmd_args::Mode;
@@ -98,7 +101,9 @@ impl Cases {
 }
 
 // Writes a line of a name and a word, which is escaped.
-fn put_line(name: &[u8], word: &[u8], out: &mut Bytes) -> Result<(), NoMemory> {
+fn put_line(name: &[u8], word: &[u8], out: &mut Bytes) -> Result<(), NoMemory>
+    ensures { OnOk result (out.new ≡ out.old ++ name.now ++ 32 ∷ spelling word.now ++ 10 ∷ []) }
+{
     out.append(name)?;
     out.append(b" ")?;
     escape(word, out)?;

@@ -1,3 +1,5 @@
+ghost use Rattle.std.specs.Prelude.{◌≡◌, ◌↔◌, IsTrue};
+
 use rs_base::{Bytes, NoMemory, Words, parse_decimal, unescape};
 use std::alloc::Global;
 
@@ -72,6 +74,8 @@ fn turn_of(words: &Words, name: &[u8]) -> Option<Turn> {
     })
 }
 
-fn is(word: &Bytes, text: &[u8]) -> bool {
+fn is(word: &Bytes, text: &[u8]) -> bool
+    ensures { IsTrue result ↔ (word.now ≡ text.now) }
+{
     word.as_slice() == text
 }
