@@ -55,7 +55,7 @@ fn run(
     ensures draws { IfAnswered result (λ _. draws.new ≡ state_after draws.old (key_row space.old now draws.old id words.now).draws) }
 {
     match id {
-        CmdId::RandomKey => random_key(alloc, space, draws),
+        CmdId::RandomKey => random_key(space, draws),
         _ => change(alloc, space, now, id, words, effects),
     }
 }

@@ -66,7 +66,7 @@ fn is_match(glob: &Glob, key: &Bytes) -> bool
 }
 
 /// RANDOMKEY: one of the keys, by one draw. Null without a draw where there is no key.
-pub fn random_key(alloc: Global, space: &Space, draws: &mut Draws) -> Result<Reply, Stop>
+pub fn random_key(space: &Space, draws: &mut Draws) -> Result<Reply, Stop>
     ensures reply { IfAnswered result (λ reply. reply ≡ (randomkey_row space.now draws.old).reply) }
     ensures draws { draws.new ≡ state_after draws.old (randomkey_row space.now draws.old).draws }
 {
@@ -74,8 +74,8 @@ pub fn random_key(alloc: Global, space: &Space, draws: &mut Draws) -> Result<Rep
     if count == 0 {
         return Ok(Reply::NullBulk);
     }
-    match space.key_at(draws.below(count as u64) as usize) {
-        Some(key) => Ok(Reply::bulk(alloc, key)?),
+    match space.key_at(draws.below(count as u64) as usize)? {
+        Some(key) => Ok(Reply::Bulk(key)),
         None => Ok(Reply::NullBulk),
     }
 }

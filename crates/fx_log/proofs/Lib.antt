@@ -4,6 +4,7 @@ pub mod EntryLaws
 pub mod Runs
 pub mod Within
 pub mod RowTexts
+pub mod EntryLines
 pub mod Texts
 pub mod Feeding
 pub mod Staying

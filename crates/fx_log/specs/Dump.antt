@@ -1,6 +1,7 @@
 -- The dump of a store, as text, and records applied one after another.
 use Rattle.std.specs.Prelude.{◌≡◌, ℕ, Option, Some, None, List, ◌∷◌, [], ◌++◌, decimal, codes}
 use Rattle.std.specs.List.{flat_map}
+use Rattle.std.specs.Option.{option_map_or}
 use Rattle.std.specs.FinMap as finite
 use Rattle.std.specs.Fmt.{signed_decimal}
 use Rattle.rs_base.specs.Escape.{spelling}
@@ -49,6 +50,10 @@ contents_text (value.Sorted scores) = flat_map row_text (rows_of scores)
 abbrev pub entry_line : (List ℕ × Entry) → List ℕ
 entry_line entry = spelling entry.0 ++ codes " " ++ kind_text entry.1.value ++ codes " " ++ deadline_text entry.1.deadline
     ++ contents_text entry.1.value ++ 10 ∷ []
+
+-- the line of a key, if the key is there
+abbrev pub line_at : Store → List ℕ → List ℕ
+line_at store key = option_map_or (λ entry. entry_line (key, entry)) (finite.get store key) []
 
 -- a line for each key, in the order of the keys' bytes
 abbrev pub dump : Store → List ℕ

@@ -2,7 +2,7 @@ ghost use Rattle.std.specs.Prelude.{◌≡◌, ◌++◌, codes, OnOk};
 ghost use Rattle.std.specs.List.{flat_map};
 ghost use Rattle.std.specs.Fmt.{signed_decimal};
 ghost use Rattle.ks_zset.specs.Zset.{rows_of};
-ghost use Rattle.fx_log.specs.Dump.{dump, entry_line, deadline_text, kind_text, word_text, pair_text, row_text, contents_text};
+ghost use Rattle.fx_log.specs.Dump.{dump, line_at, entry_line, deadline_text, kind_text, word_text, pair_text, row_text, contents_text};
 
 use itoa::Buffer;
 use ks_space::{Entry, Space, Value};
@@ -15,10 +15,20 @@ use rs_whole::Whole;
 pub fn dump(space: &Space, out: &mut Bytes) -> Result<(), NoMemory>
     ensures { OnOk result (out.new ≡ out.old ++ dump space.now) }
 {
-    for (key, entry) in space.iter() {
-        write_entry(key, entry, out)?;
+    for key in space.keys()?.as_slice() {
+        write_line(space, key.as_slice(), out)?;
     }
     Ok(())
+}
+
+// Adds a key's line, where the key is there.
+fn write_line(space: &Space, key: &[u8], out: &mut Bytes) -> Result<(), NoMemory>
+    ensures { OnOk result (out.new ≡ out.old ++ line_at space.now key.now) }
+{
+    match space.get(key) {
+        Some(entry) => write_entry(key, entry, out),
+        None => Ok(()),
+    }
 }
 
 /// Adds a key's line.

@@ -3,7 +3,7 @@ use crate::{
     records_change_their_key_alone, records_keep_to_the_limits, records_keep_to_the_time,
     settled_records_lead_to_the_same_store,
 };
-use ks_space::{Space, Value};
+use ks_space::{Entry, Space, Value};
 use rs_base::{Bytes, NoMemory, Words, write_decimal};
 use std::alloc::Global;
 use std::test::Fail;
@@ -103,17 +103,24 @@ const STEP_ROWS: [(&[u8], &[u8]); 24] = [
 
 // Adds each key with its string and its deadline.
 fn tell(space: &Space, out: &mut Bytes) -> Result<(), NoMemory> {
-    for (key, entry) in space.iter() {
+    for key in space.keys()?.as_slice() {
         out.append(b" ")?;
-        out.append(key)?;
+        out.append(key.as_slice())?;
         out.append(b":")?;
-        if let Value::Str(text) = &entry.value {
-            out.append(text.as_slice())?;
+        if let Some(entry) = space.get(key.as_slice()) {
+            tell_entry(entry, out)?;
         }
-        if let Some(deadline) = entry.deadline {
-            out.append(b"@")?;
-            write_decimal(deadline, out)?;
-        }
+    }
+    Ok(())
+}
+
+fn tell_entry(entry: &Entry, out: &mut Bytes) -> Result<(), NoMemory> {
+    if let Value::Str(text) = &entry.value {
+        out.append(text.as_slice())?;
+    }
+    if let Some(deadline) = entry.deadline {
+        out.append(b"@")?;
+        write_decimal(deadline, out)?;
     }
     Ok(())
 }

@@ -1,5 +1,6 @@
 pub mod Always
 pub mod EntriesSeen
+pub mod KeyLists
 pub mod Dues
 pub mod Gone
 pub mod Stores

@@ -3,13 +3,11 @@
 
 mod deadlines;
 mod entry;
-mod iter;
 mod laws;
 mod space;
 mod table;
 
 pub use entry::{Entry, Value};
-pub use iter::Iter;
 pub use laws::{purge_removes_the_keys_past_their_deadline, stores_with_equal_entries_are_equal};
 pub use space::Space;
 

@@ -6,7 +6,6 @@ ghost use Rattle.ks_space.specs.Purge.{gone, purged};
 
 use crate::Entry;
 use crate::deadlines::{Deadlines, Due};
-use crate::iter::Iter;
 use crate::table::Table;
 use rs_base::{Bytes, NoMemory, Words};
 use std::alloc::Global;
@@ -173,8 +172,8 @@ impl Space {
     }
 
     /// The key at `place` in byte order, counted from 0. `None` exactly where `place` is not below the number of keys.
-    pub fn key_at(&self, place: usize) -> Option<&[u8]>
-        ensures { option_copied result ≡ slice_get (finite.keys self.now) place }
+    pub fn key_at(&self, place: usize) -> Result<Option<Bytes>, NoMemory>
+        ensures { IfOk result (λ key. key ≡ slice_get (finite.keys self.now) place) }
     {
         self.table.key_at(place)
     }
@@ -197,13 +196,6 @@ impl Space {
         ensures { IfOk result (λ keys. keys ≡ finite.keys self.now) }
     {
         self.table.keys()
-    }
-
-    /// The keys with their entries, in byte order.
-    pub fn iter(&self) -> Iter<'_>
-        ensures { result ≡ finite.entries self.now }
-    {
-        self.table.iter()
     }
 }
 

@@ -4,17 +4,17 @@ ghost use Rattle.std.specs.FinMap as finite;
 ghost use Rattle.ks_space.specs.Store.{deadline_at, with_deadline};
 
 use crate::Entry;
-use crate::iter::Iter;
+use indexmap::IndexMap;
 use rs_base::{Bytes, NoMemory, Words};
 use std::alloc::{AllocError, Global};
-use std::collections::BTreeMap;
 use std::marker::Model;
 
 /// Keys with their entries, without an index of the deadlines. Contracts see it as a finite map in the order of the keys' bytes.
+// A key is found by its hash. The keys stand in no order, which is made where it is asked for.
 #[derive(Drop)]
 pub struct Table {
     alloc: Global,
-    entries: BTreeMap<Vec<u8>, Entry>,
+    entries: IndexMap<Vec<u8>, Entry>,
 }
 
 impl Model for Table {
@@ -37,7 +37,7 @@ impl Table {
     {
         Table {
             alloc,
-            entries: BTreeMap::new(alloc),
+            entries: IndexMap::new(alloc),
         }
     }
 
@@ -64,7 +64,7 @@ impl Table {
         ensures same { IfSome result (λ p. p.0 ≡ key.now) }
         ensures left { self.new ≡ finite.remove self.old key.now }
     {
-        match self.entries.remove_entry(key) {
+        match self.entries.swap_remove_entry(key) {
             Some((key, entry)) => Some((Bytes::from_vec(key), entry)),
             None => None,
         }
@@ -101,31 +101,23 @@ impl Table {
     pub fn keys(&self) -> Result<Words, NoMemory>
         ensures { IfOk result (λ keys. keys ≡ finite.keys self.now) }
     {
-        let mut keys = Words::new(self.alloc);
+        let mut keys = Vec::new(self.alloc);
         for key in self.entries.keys() {
             keys.push(Bytes::from_slice(self.alloc, key.as_slice())?)?;
         }
-        Ok(keys)
+        keys.sort_unstable();
+        Ok(Words::from_vec(keys))
     }
 
     /// The key at `place` in byte order, counted from 0.
-    pub fn key_at(&self, place: usize) -> Option<&[u8]>
-        ensures { option_copied result ≡ slice_get (finite.keys self.now) place }
+    pub fn key_at(&self, place: usize) -> Result<Option<Bytes>, NoMemory>
+        ensures { IfOk result (λ key. key ≡ slice_get (finite.keys self.now) place) }
     {
-        let mut left = place;
-        for known in self.entries.keys() {
-            if left == 0 {
-                return Some(known.as_slice());
-            }
-            left -= 1;
+        let keys = self.keys()?;
+        match keys.get(place) {
+            Some(key) => Ok(Some(key.clone()?)),
+            None => Ok(None),
         }
-        None
-    }
-
-    pub fn iter(&self) -> Iter<'_>
-        ensures { result ≡ finite.entries self.now }
-    {
-        Iter::new(self.entries.iter())
     }
 }
 

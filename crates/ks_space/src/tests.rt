@@ -47,11 +47,13 @@ fn tell_answer(answer: bool, out: &mut Bytes) -> Result<(), NoMemory> {
 }
 
 fn tell_store(space: &Space, out: &mut Bytes) -> Result<(), NoMemory> {
-    for (key, entry) in space.iter() {
+    for key in space.keys()?.as_slice() {
         out.push(b' ')?;
-        out.append(key)?;
+        out.append(key.as_slice())?;
         out.push(b'=')?;
-        tell_entry(entry, out)?;
+        if let Some(entry) = space.get(key.as_slice()) {
+            tell_entry(entry, out)?;
+        }
     }
     Ok(())
 }
@@ -105,7 +107,10 @@ fn tell_keys(space: &Space, out: &mut Bytes) -> Result<(), NoMemory> {
     for key in space.keys()?.as_slice() {
         out.append(key.as_slice())?;
     }
-    out.append(space.key_at(0).unwrap_or(b"-"))?;
+    if let Some(key) = space.key_at(0)? {
+        out.append(key.as_slice())?;
+    }
+    tell_answer(space.key_at(1)?.is_some(), out)?;
     tell_answer(space.get(b"a").is_some(), out)?;
     tell_answer(space.len() == 1 && !space.is_empty(), out)
 }
@@ -150,7 +155,7 @@ fn keeps_entries(rt: HostRuntime) -> Result<(), Fail> {
     stores_with_equal_entries_are_equal();
     let mut told = Bytes::new(rt.alloc());
     all_told(rt.alloc(), &mut told)?;
-    let want = b"--1-- a=2@7 ab=4@5 b=3@5 z=5@9+-+||z,ab,b, a=2aa++2 a=2".as_slice();
+    let want = b"--1-- a=2@7 ab=4@5 b=3@5 z=5@9+-+||z,ab,b, a=2aa-++2 a=2".as_slice();
     assert_eq!(rt; told.as_slice(), want);
     assert!(rt; are_copied(rt.alloc())?);
     Ok(())

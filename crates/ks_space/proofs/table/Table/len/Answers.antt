@@ -1,8 +1,6 @@
 use Rattle.std.proofs.Common.{◌∙◌}
-use Rattle.ks_space.specs.Store.{bytes_cmp}
-use Rattle.ks_tree.proofs.ByteOrder.{bytes_total, bytes_exact}
-use Rattle.ks_tree.proofs.MapLaws.{len_seen}
+use Rattle.ks_space.proofs.EntriesSeen.{len_seen}
 use Rattle.ks_space.proofs.table.Table.len.Goals as goal
 
 pub returns : goal.returns
-returns c = c.len.ensures.len ∙ len_seen bytes_cmp (λ k. k.items) bytes_total bytes_exact c.self.inside.entries.entries c.args.self.now c.len.ensures.ordered c.self.view_is
+returns c = c.len.ensures.len ∙ len_seen (λ k. k.items) c.self.inside.entries.entries c.args.self.now c.len.ensures.unique c.self.view_is
