@@ -171,7 +171,8 @@ impl Space {
         self.deadlines.clear();
     }
 
-    /// The key at `place` in byte order, counted from 0. `None` exactly where `place` is not below the number of keys.
+    /// The key at `place` in byte order, counted from 0. `None` exactly where `place` is not below the number of keys. It puts
+    /// all of the keys in order.
     pub fn key_at(&self, place: usize) -> Result<Option<Bytes>, NoMemory>
         ensures { IfOk result (λ key. key ≡ slice_get (finite.keys self.now) place) }
     {

@@ -9,8 +9,8 @@ use rs_base::{Bytes, NoMemory, Words};
 use std::alloc::{AllocError, Global};
 use std::marker::Model;
 
-/// Keys with their entries, without an index of the deadlines. Contracts see it as a finite map in the order of the keys' bytes.
-// A key is found by its hash. The keys stand in no order, which is made where it is asked for.
+/// Keys with their entries, without an index of the deadlines. A key is found by its hash. Contracts see it as a finite map in
+/// the order of the keys' bytes, which is made where it is asked for.
 #[derive(Drop)]
 pub struct Table {
     alloc: Global,
@@ -109,7 +109,7 @@ impl Table {
         Ok(Words::from_vec(keys))
     }
 
-    /// The key at `place` in byte order, counted from 0.
+    /// The key at `place` in byte order, counted from 0. It puts all of the keys in order.
     pub fn key_at(&self, place: usize) -> Result<Option<Bytes>, NoMemory>
         ensures { IfOk result (λ key. key ≡ slice_get (finite.keys self.now) place) }
     {
