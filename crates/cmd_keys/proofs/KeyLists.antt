@@ -17,6 +17,7 @@ use Rattle.std.specs.FinMap.Entries.{is_sorted, below_all}
 use Rattle.resp_reply.specs.declared.reply.Reply.TheVariants.{Bulk, NullBulk}
 use Rattle.ks_space.specs.declared.entry.Entry.{Entry}
 use Rattle.ks_space.specs.Store.{bytes_cmp, Store}
+use Rattle.ks_space.proofs.KeyLists.{keys_sorted}
 use Rattle.ks_tree.proofs.ByteOrder.{bytes_total, bytes_exact}
 use Rattle.cmd_glob.specs.Matching.{Matches}
 use Rattle.cmd_glob.specs.Patterns.{parts_of}
@@ -43,30 +44,6 @@ drawn-some store count place draws counted some drawn none =
     cc
 
 -- the keys ascend
-first_of : (a b : Bool) → T (a && b) → T a
-first_of true b h = tt
-first_of false b h = absurd h
-
-second_of : (a b : Bool) → T (a && b) → T b
-second_of true b h = h
-second_of false b h = absurd h
-
-less_from : (r : Ordering) → T (is_lt r) → r ≡ Less
-less_from Less h = refl
-less_from Equal h = absurd h
-less_from Greater h = absurd h
-
-all_above : (x : List ℕ) (es : List (List ℕ × Entry)) → T (below_all bytes_cmp x es) → AllByRecursion (λ y. bytes_cmp x y ≡ Less) (map (λ e. e.0) es)
-all_above x [] h = tt
-all_above x (e ∷ es) h =
-    (less_from (bytes_cmp x e.0) (first_of (is_lt (bytes_cmp x e.0)) (below_all bytes_cmp x es) h), all_above x es (second_of (is_lt (bytes_cmp x e.0)) (below_all bytes_cmp x es) h))
-
-keys_sorted : (es : List (List ℕ × Entry)) → T (is_sorted bytes_cmp es) → IsStrictlySortedBy bytes_cmp (map (λ e. e.0) es)
-unfolding IsStrictlySortedBy
-keys_sorted [] h = tt
-keys_sorted (e ∷ es) h =
-    (all_above e.0 es (first_of (below_all bytes_cmp e.0 es) (is_sorted bytes_cmp es) h), keys_sorted es (second_of (below_all bytes_cmp e.0 es) (is_sorted bytes_cmp es) h))
-
 pub keys_ordered : (store : Store) (pattern : List ℕ) → IsStrictlySortedBy bytes_cmp (keys_matching store pattern)
 keys_ordered store pattern = IsStrictlySortedBy-filter bytes_cmp (is_match (parts_of pattern)) (finite.keys store) (keys_sorted (finite.entries store) (finite.entries_sorted store))
 
@@ -129,3 +106,7 @@ randomkey_some store draws some =
 
 pub randomkey_empty : (draws : ℕ) → randomkey_row finite.empty draws ≡ answers NullBulk
 randomkey_empty draws = randomkey-none finite.empty draws (finite.len-empty bytes_cmp Entry)
+
+-- where there is a key, one draw is taken
+pub drawn-one : (store : Store) (count draws : ℕ) → count ≡ finite.len store → (count ≡ 0 → ⊥) → (randomkey_row store draws).draws ≡ 1
+drawn-one store count draws counted some = let at_least : 1 ≤ finite.len store = omega arith in (randomkey_some store draws at_least).3
