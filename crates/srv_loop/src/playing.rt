@@ -12,12 +12,12 @@ ghost use Rattle.srv_loop.specs.Stops.{Stops, Never};
 
 use crate::gathering::Gathered;
 use crate::laws::log_replays;
-use crate::session::{first_turn, judge};
+use crate::session::read_session;
 use crate::transcript::put_ending;
 use crate::writing::{begin, write_out};
 use cl_core::Server;
 use rs_base::Bytes;
-use rs_outside::{Log, Sink, Status};
+use rs_outside::{Log, Sink, Status, Turns};
 use std::alloc::Global;
 
 /// Plays a session: judges all of its lines, begins the log under `name`, takes the turns, and writes the transcript to
@@ -78,45 +78,37 @@ fn try_play<O: Sink, L: Log>(
     ensures log_later { L.faults log.old ≤ L.faults log.new }
     ensures out_later { O.faults out.old ≤ O.faults out.new }
 {
-    judge(alloc, session)?;
+    let turns = read_session(alloc, session)?;
     begin(log, name)?;
     log_replays();
-    play_turns(alloc, session, out, log)
+    play_turns(alloc, turns, out, log)
 }
 
-// Takes the turns of a session that was judged, and writes what they log and send, many turns at a time.
+// Takes the turns of a session, and writes what they log and send, many turns at a time.
 fn play_turns<O: Sink, L: Log>(
     alloc: Global,
-    session: &[u8],
+    turns: Turns,
     out: &mut O,
     log: &mut L,
 ) -> Result<(), Status>
-    requires { (turns : List Turn) × IsSession session.now turns }
-    ensures ok { (turns : List Turn) → IsSession session.now turns → OnOk result
-        ((L.taken log.new ≡ known_then (L.taken log.old) (log_bytes turns)) × (O.taken out.new ≡ known_then (O.taken out.old) (transcript turns))) }
+    ensures ok { OnOk result ((L.taken log.new ≡ known_then (L.taken log.old) (log_bytes turns)) × (O.taken out.new ≡ known_then (O.taken out.old) (transcript turns))) }
     ensures stop { IfErr result (Stops Never (Rose (L.faults log.old) (L.faults log.new)) (Rose (O.faults out.old) (O.faults out.new)) ⊥) }
     ensures names { L.begun log.new ≡ L.begun log.old }
-    ensures cut { (turns : List Turn) → IsSession session.now turns → CutsPlay turns (L.taken log.old) (L.taken log.new) (O.taken out.old) (O.taken out.new) }
+    ensures cut { CutsPlay turns (L.taken log.old) (L.taken log.new) (O.taken out.old) (O.taken out.new) }
     ensures log_later { L.faults log.old ≤ L.faults log.new }
     ensures out_later { O.faults out.old ≤ O.faults out.new }
 {
     let mut server = Server::new(alloc);
     let mut gathered = Gathered::new(alloc);
-    let mut turns = 0u64;
     let mut logged = 0u64;
-    let mut rest = session;
-    while !rest.is_empty() {
-        let Some((turn, more)) = first_turn(alloc, rest)? else {
-            unreachable!();
-        };
+    let count = turns.len() as u64;
+    for turn in turns.into_vec() {
         let bytes = gathered.gather(alloc, &mut server, turn)?;
         gathered.flush_full(alloc, out, log)?;
         logged = logged.saturating_add(bytes);
-        turns += 1;
-        rest = more;
     }
     gathered.flush(alloc, out, log)?;
-    write_ending(alloc, &server, turns, logged, out)
+    write_ending(alloc, &server, count, logged, out)
 }
 
 // Writes the last lines of the transcript.

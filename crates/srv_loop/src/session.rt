@@ -1,4 +1,4 @@
-ghost use Rattle.std.specs.Prelude.{◌≡◌, ◌≢◌, ◌⊎◌, ℕ, ◌+◌, ◌^◌, ◌<◌, ◌≤◌, List, ◌∷◌, ◌++◌, Some, length, IfOk, OnOk, IfSome, IsSomeAnd, IfErr, IsErrAnd, decimal};
+ghost use Rattle.std.specs.Prelude.{◌≡◌, ◌≢◌, ◌⊎◌, ℕ, ◌+◌, ◌^◌, ◌<◌, ◌≤◌, List, ◌∷◌, ◌++◌, Some, length, IfOk, IfSome, IsSomeAnd, IfErr, IsErrAnd, decimal};
 ghost use Rattle.std.specs.List.{AllByRecursion};
 ghost use Rattle.rs_base.specs.Bytes.{AreBytes};
 ghost use Rattle.rs_base.specs.Escape.{spelling};
@@ -8,7 +8,7 @@ ghost use Rattle.srv_loop.specs.Session.{IsTurn, IsWhat, IsSession, IsBadLine, I
 
 use memchr::memchr;
 use rs_base::{Bytes, NoMemory, decimal_prefix, unescape};
-use rs_outside::{Status, Turn, What};
+use rs_outside::{Status, Turn, Turns, What};
 use std::alloc::Global;
 
 /// The most bytes that a piece of a session may have.
@@ -159,21 +159,24 @@ fn after_prefix<'t>(text: &'t [u8], prefix: &[u8]) -> Option<&'t [u8]>
     text.strip_prefix(prefix)
 }
 
-/// Judges a session: `Ok` where all its lines are session lines, and else the first bad line.
-pub fn judge(alloc: Global, session: &[u8]) -> Result<(), Status>
-    ensures good { OnOk result ((turns : List Turn) × IsSession session.now turns) }
+/// The turns of a session, or its first bad line.
+pub fn read_session(alloc: Global, session: &[u8]) -> Result<Turns, Status>
+    ensures good { IfOk result (λ turns. IsSession session.now turns) }
+    ensures only { (turns : List Turn) → IsSession session.now turns → IfOk result (λ read. read ≡ turns) }
     ensures bad { IfErr result (λ status. IsJudged session.now status) }
     ensures good_only { (turns : List Turn) → IsSession session.now turns → IfErr result (λ status. status ≡ Status.NoMemory) }
     ensures bad_only { (line : ℕ) → IsBadLine session.now line → IsErrAnd result (λ status. (status ≡ Status.BadInput line) ⊎ (status ≡ Status.NoMemory)) }
 {
+    let mut turns = Turns::new(alloc);
     let mut line = 1u64;
     let mut rest = session;
     while !rest.is_empty() {
-        let Some((_, more)) = first_turn(alloc, rest)? else {
+        let Some((turn, more)) = first_turn(alloc, rest)? else {
             return Err(Status::BadInput { line });
         };
+        turns.push(turn)?;
         rest = more;
         line += 1;
     }
-    Ok(())
+    Ok(turns)
 }
