@@ -15,5 +15,6 @@ mod values;
 mod words;
 
 pub use kinds::{LexKind, LexStop, Token, TokenKind, TokenList};
+pub use lines::last_line;
 pub use scanning::{one_token_list, tokens};
 pub use values::string_bytes;

@@ -1,5 +1,5 @@
 ghost use Rattle.std.specs.Prelude.{◌≡◌, ◌+◌, ◌<◌, ◌^◌, length};
-ghost use Rattle.lua_lex.specs.Lines.{is_break, is_pair};
+ghost use Rattle.lua_lex.specs.Lines.{breaks, is_break, is_pair};
 
 /// The line breaks of the bytes that were passed: CR, LF, CR LF and LF CR are each one. `pending` is the break byte that
 /// was passed last and may still begin a pair, or 0.
@@ -48,6 +48,14 @@ impl Lines {
             }
         }
     }
+}
+
+/// The line that the end of the text is on, counted from 1.
+pub fn last_line(text: &[u8]) -> u32
+    requires { length text.now < 2 ^ 31 }
+    ensures { result ≡ 1 + breaks text.now }
+{
+    1 + Lines::new().pass(text).breaks
 }
 
 pub fn is_break(byte: u8) -> bool
