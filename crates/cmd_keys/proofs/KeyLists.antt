@@ -35,14 +35,6 @@ randomkey-none store draws none =
     let keys = length-keys store in
     ap drawn_key (slice_get_past (finite.keys store) (drawn_place (finite.len store) draws) (omega arith))
 
--- a place that is drawn is that of a key
-pub drawn-some : (store : Store) (count place draws : ℕ) → count ≡ finite.len store → (count ≡ 0 → ⊥) → place ≡ drawn_place count draws → None ≡ slice_get (finite.keys store) place → ⊥
-drawn-some store count place draws counted some drawn none =
-    let keys = length-keys store in
-    let within : place < length (finite.keys store) = omega arith in
-    let there = slice_get-get_or (finite.keys store) place [] within in
-    cc
-
 -- the keys ascend
 pub keys_ordered : (store : Store) (pattern : List ℕ) → IsStrictlySortedBy bytes_cmp (keys_matching store pattern)
 keys_ordered store pattern = IsStrictlySortedBy-filter bytes_cmp (is_match (parts_of pattern)) (finite.keys store) (keys_sorted (finite.entries store) (finite.entries_sorted store))
