@@ -1,0 +1,98 @@
+-- Trees put together and taken apart.
+use Rattle.std.proofs.Common.{◌≡◌, List, [], ◌∷◌, ◌++◌, length, refl, sym, ap, ◌∙◌, subst}
+use Rattle.lua_grammar.specs.declared.context.Context.{Context}
+use Rattle.std.proofs.lemmas.List.{same_from_push}
+use Rattle.lua_grammar.specs.declared.expressions.Expr.{Expr, out-Expr}
+use Rattle.lua_grammar.specs.declared.expressions.Call.TheViews.{out-roll-Expr}
+use Rattle.lua_grammar.specs.declared.expressions.Call.TheOpen.{Expr-F}
+use Rattle.lua_grammar.specs.declared.expressions.Expr.TheVariants.{rolls-Suffixed}
+use Rattle.lua_grammar.specs.declared.expressions.Expr.TheVariants as expr
+use Rattle.lua_grammar.specs.declared.expressions.Link.{Link}
+use Rattle.lua_grammar.specs.declared.expressions.Suffix.{Suffix}
+use Rattle.lua_grammar.specs.declared.expressions.Key.{Key}
+use Rattle.lua_grammar.specs.declared.statements.Deed.TheVariants as deed_of
+use Rattle.lua_grammar.specs.declared.statements.Target.TheVariants as target_of
+use Rattle.lua_grammar.specs.Positions.{Position}
+use Rattle.lua_grammar.specs.Contexts.{every_rule}
+use Rattle.lua_grammar.specs.Things as thing
+use Rattle.lua_grammar.specs.declared.expressions.Call.{Call}
+use Rattle.lua_grammar.specs.declared.expressions.Suffix.TheVariants as suffix_of
+use Rattle.lua_grammar.specs.Parts as part
+use Rattle.lua_grammar.specs.Parts.{IsReturn, IsCall}
+use Rattle.lua_grammar.specs.Grammar as rule
+use Rattle.lua_grammar.specs.Grammar.{Spelled}
+use Rattle.lua_parse.specs.declared.trees.Front.{Front}
+use Rattle.lua_parse.specs.declared.trees.Front.TheVariants as front
+use Rattle.lua_parse.specs.Fronts.{FrontOf, IsFront}
+
+nothing_is_end : {A : Type 0} (xs : List A) (x : A) → [] ≡ xs ++ x ∷ [] → ⊥
+nothing_is_end [] x e = cc
+nothing_is_end (a ∷ xs) x e = cc
+
+no_key : {k : Key} {how : Call} → suffix_of.Key k ≡ suffix_of.Call how → ⊥
+no_key e = cc
+
+abbrev head_in : {A B C D E F : Type 0} → B → Expr-F A B C D E F → B
+head_in other (Expr-F.Suffixed head all) = head
+head_in other _ = other
+
+abbrev suffixes_in : {A B C D E F : Type 0} → Expr-F A B C D E F → List E
+suffixes_in (Expr-F.Suffixed head all) = all
+suffixes_in _ = []
+
+suffixed_out : (head : Expr) (all : List Suffix) → out-Expr (expr.Suffixed head all) ≡ Expr-F.Suffixed head all
+suffixed_out head all = ap out-Expr (sym (rolls-Suffixed head all)) ∙ out-roll-Expr _
+
+same_suffixed : (head head' : Expr) (all all' : List Suffix) → expr.Suffixed head all ≡ expr.Suffixed head' all' → (head ≡ head') × (all ≡ all')
+same_suffixed head head' all all' e =
+    let out = sym (suffixed_out head all) ∙ ap out-Expr e ∙ suffixed_out head' all' in
+    (ap (head_in head) out, ap suffixes_in out)
+
+pub suffixed-some : (head : Expr) (suffixes : List Suffix) → (suffixes ≡ [] → ⊥) → part.suffixed head suffixes ≡ expr.Suffixed head suffixes
+suffixed-some head [] some = absurd (some refl)
+suffixed-some head (suffix ∷ suffixes) some = refl
+
+pub row-some : (first : Expr) (links : List Link) → (links ≡ [] → ⊥) → part.row first links ≡ expr.Row first links
+row-some first [] some = absurd (some refl)
+row-some first (link ∷ links) some = refl
+
+pub front_spelled : {c : Context} {head : Expr} {all : List Suffix} {i j : Position} (found : Front) → FrontOf head all found
+    → Spelled every_rule c (thing.own_chain head all) i j → IsFront c found i j
+front_spelled {c} {head} {all} {i} {j} (front.Target (target_of.Name n)) is s =
+    let P : Expr → Type 0 = λ e. Spelled every_rule c (thing.own_chain e all) i j in
+    let Q : List Suffix → Type 0 = λ xs. Spelled every_rule c (thing.own_chain (expr.Name n) xs) i j in
+    rule.name_target (subst Q is.1 (subst P is.0 s))
+front_spelled {c} {head} {all} {i} {j} (front.Target (target_of.Row e k)) is s =
+    let P : Expr → Type 0 = λ x. Spelled every_rule c (thing.target (target_of.Row x k)) i j in
+    subst P (sym is.1) (rule.row_target is.0 s is.2)
+front_spelled {c} {head} {all} {i} {j} (front.Call e how) is s =
+    let P : Expr → Type 0 = λ x. Spelled every_rule c (thing.deed (deed_of.Call x how)) i j in
+    subst P (sym is.1) (rule.call_statement is.0 s is.2)
+front_spelled {c} {head} {all} {i} {j} front.Neither is s = is
+
+-- a `return` of one value that is no call
+pub no_call : (value : Expr) (values : List Expr) → values ≡ value ∷ []
+    → ((head : Expr) (suffixes : List Suffix) (how : Call) → value ≡ expr.Suffixed head (suffixes ++ suffix_of.Call how ∷ []) → ⊥) → IsReturn (value ∷ []) (deed_of.Return values)
+no_call value values e none =
+    let P : List Expr → Type 0 = λ xs. IsReturn (value ∷ []) (deed_of.Return xs) in
+    subst P (sym e) (part.of_values (λ function how s. let same : value ≡ s.0 = cc in none s.2.head s.2.suffixes how (same ∙ s.2.is)))
+
+pub many_no_call : (values : List Expr) → (length values ≡ 1 → ⊥) → IsReturn values (deed_of.Return values)
+many_no_call values none = part.of_values (λ function how s. none (ap length s.1))
+
+-- a `return` of one call
+pub a_call : (head : Expr) (all suffixes : List Suffix) (how : Call) (function : Expr) → all ≡ suffixes ++ suffix_of.Call how ∷ [] → function ≡ part.suffixed head suffixes
+    → IsReturn (expr.Suffixed head all ∷ []) (deed_of.ReturnCall function how)
+a_call head all suffixes how function e is =
+    part.of_call (expr.Suffixed head all, refl, record { head = head; suffixes = suffixes; called = is; is = ap (λ xs. expr.Suffixed head xs) e })
+
+-- no call ends suffixes that end in a key, nor no suffixes
+pub key_last : (head : Expr) (all before : List Suffix) (k : Key) → all ≡ before ++ suffix_of.Key k ∷ []
+    → (head' : Expr) (suffixes : List Suffix) (how : Call) → expr.Suffixed head all ≡ expr.Suffixed head' (suffixes ++ suffix_of.Call how ∷ []) → ⊥
+key_last head all before k e head' suffixes how is =
+    no_key (same_from_push before suffixes (suffix_of.Key k) (suffix_of.Call how) (sym e ∙ (same_suffixed head head' all (suffixes ++ suffix_of.Call how ∷ []) is).1)).1
+
+pub none_last : (head : Expr) (all : List Suffix) → all ≡ []
+    → (head' : Expr) (suffixes : List Suffix) (how : Call) → expr.Suffixed head all ≡ expr.Suffixed head' (suffixes ++ suffix_of.Call how ∷ []) → ⊥
+none_last head all e head' suffixes how is =
+    nothing_is_end suffixes (suffix_of.Call how) (sym e ∙ (same_suffixed head head' all (suffixes ++ suffix_of.Call how ∷ []) is).1)

@@ -1,0 +1,31 @@
+use Rattle.std.proofs.Common.{sym, ap, ◌∙◌}
+use Rattle.lua_grammar.specs.Grammar as rule
+use Rattle.lua_parse.proofs.Leads.{none_yet, one_more, ended, ended_by}
+use Rattle.lua_parse.proofs.Progress.{goes, also_eats}
+use Rattle.lua_parse.proofs.Seen.{sees_not, separator_passes, separator_eats}
+use Rattle.lua_grammar.specs.Positions as at
+use Rattle.lua_lex.specs.declared.kinds.TokenKind.TheVariants as kind
+use Rattle.lua_parse.proofs.grammar.Grammar.fields.Goals as goal
+
+pub more-init : goal.more-init
+more-init g c = rw c.new-fields.ensures none_yet
+
+pub returns-then-not-is_separator : goal.returns-then-not-is_separator
+returns-then-not-is_separator g c =
+    let no = sees_not kind.RightBrace c.more.reader c.sees.ensures (cc) in
+    ended_by c.more.invariant c.in_ok-push.ensures.ok (rule.last_field no c.in_ok-field.ensures (sym (c.is_separator.ensures ∙ ap at.is_separator c.peek.ensures) ∙ cc))
+
+pub more-preserved : goal.more-preserved
+more-preserved g c =
+    let no = sees_not kind.RightBrace c.more.reader c.sees.ensures (cc) in
+    let some = sym (c.is_separator.ensures ∙ ap at.is_separator c.peek.ensures) ∙ cc in
+    let p = separator_passes some c.pass.ensures in
+    one_more c.more.invariant c.in_ok-push.ensures.ok (λ rest end s. rule.more_fields no c.in_ok-field.ensures some p s)
+
+pub more-smaller : goal.more-smaller
+more-smaller g c =
+    let some = sym (c.is_separator.ensures ∙ ap at.is_separator c.peek.ensures) ∙ cc in
+    (also_eats (goes c.in_ok-field.ensures) (separator_eats some c.pass.ensures)).words
+
+pub returns : goal.returns
+returns g c = ended c.more.invariant (rule.no_fields (c.sees.ensures.0 (cc)))

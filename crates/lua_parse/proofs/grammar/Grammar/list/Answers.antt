@@ -1,0 +1,16 @@
+use Rattle.lua_grammar.specs.Grammar as rule
+use Rattle.lua_parse.proofs.Leads.{none_yet, one_more, ended_by}
+use Rattle.lua_parse.proofs.Progress.{goes, takes, also_eats}
+use Rattle.lua_parse.proofs.grammar.Grammar.list.Goals as goal
+
+pub more-init : goal.more-init
+more-init g c = rw c.new-list.ensures none_yet
+
+pub returns-then-not-eat : goal.returns-then-not-eat
+returns-then-not-eat g c = let no = c.eat.ensures.unseen (cc) in rw no.0 (ended_by c.more.invariant c.in_ok-push.ensures.ok (rule.last_expression c.in_ok-expression.ensures no.1))
+
+pub more-preserved : goal.more-preserved
+more-preserved g c = one_more c.more.invariant c.in_ok-push.ensures.ok (λ rest end s. rule.more_expressions c.in_ok-expression.ensures (c.eat.ensures.seen (cc)) s)
+
+pub more-smaller : goal.more-smaller
+more-smaller g c = (also_eats (goes c.in_ok-expression.ensures) (takes (c.eat.ensures.seen (cc)))).words

@@ -1,0 +1,8 @@
+use Rattle.lua_grammar.specs.Grammar as rule
+use Rattle.lua_parse.proofs.grammar.Grammar.otherwise.Goals as goal
+
+pub returns-then-not-eat : goal.returns-then-not-eat
+returns-then-not-eat g c = let no = c.eat.ensures.unseen (cc) in rw (c.new.ensures, no.0) (rule.no_else no.1)
+
+pub returns : goal.returns
+returns g c = rule.else_block (c.eat.ensures.seen (cc)) c.requires.room (rw c.inner.ensures at c.in_ok-block.ensures)

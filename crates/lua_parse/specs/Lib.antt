@@ -1,0 +1,6 @@
+pub mod Cursor
+pub mod Fronts
+pub mod Nests
+pub mod Numbers
+pub mod Steps
+pub mod Views

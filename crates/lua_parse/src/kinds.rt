@@ -1,0 +1,43 @@
+//! What the kind of a word tells.
+
+ghost use Rattle.std.specs.Prelude.{◌≡◌};
+ghost use Rattle.lua_grammar.specs.Positions as at;
+
+use lua_lex::TokenKind;
+
+/// Whether a suffix that begins with this word is a call.
+pub fn begins_call(kind: Option<TokenKind>) -> bool {
+    match kind {
+        Some(TokenKind::LeftParen | TokenKind::LeftBrace | TokenKind::Text | TokenKind::Colon) =>
+            true,
+        _ => false,
+    }
+}
+
+/// Whether this word stands between two fields.
+pub fn is_separator(kind: Option<TokenKind>) -> bool
+    ensures { result ≡ at.is_separator kind }
+{
+    match kind {
+        Some(TokenKind::Comma | TokenKind::Semicolon) => true,
+        _ => false,
+    }
+}
+
+/// Whether a name with `=` behind it comes.
+pub fn is_named(first: Option<TokenKind>, second: Option<TokenKind>) -> bool
+    ensures { result ≡ at.is_named first second }
+{
+    match (first, second) {
+        (Some(TokenKind::Name), Some(TokenKind::Assign)) => true,
+        _ => false,
+    }
+}
+
+/// Whether the last statement of a block begins with this word.
+pub fn begins_last(kind: Option<TokenKind>) -> bool {
+    match kind {
+        Some(TokenKind::Break | TokenKind::Return) => true,
+        _ => false,
+    }
+}

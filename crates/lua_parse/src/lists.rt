@@ -1,0 +1,42 @@
+//! Lists with commas between their items.
+
+ghost use Rattle.lua_grammar.specs.declared.context.Context.{Context};
+ghost use Rattle.lua_grammar.specs.Things as thing;
+ghost use Rattle.lua_parse.specs.Nests.{Nests, Reads};
+
+use crate::grammar::{Found, Grammar, Wanted};
+use crate::reader::Reader;
+use crate::stops::ParseStop;
+use lua_grammar::{Context, Expr, Name};
+use lua_lex::TokenKind;
+use sqlite_items::Items;
+use std::alloc::Global;
+
+impl<F: Fn(Global, &mut Reader<'_>, Context, Wanted) -> Result<Found, ParseStop>> Grammar<F> {
+    /// exp {, exp}
+    pub fn list(&self, reader: &mut Reader<'_>) -> Result<Items<Expr>, ParseStop>
+        requires nests { Nests self.now.context.level (F.pre self.now.nested) (F.post self.now.nested) }
+        ensures { Reads self.now.context thing.list result reader.old reader.new }
+    {
+        let mut list = Items::new(self.alloc);
+        'more: loop {
+            list.push(self.expression(reader)?)?;
+            if !reader.eat(TokenKind::Comma) {
+                return Ok(list);
+            }
+        }
+    }
+}
+
+/// Name {, Name}
+pub fn names(alloc: Global, reader: &mut Reader<'_>) -> Result<Items<Name>, ParseStop>
+    ensures { (c : Context) → Reads c thing.names result reader.old reader.new }
+{
+    let mut names = Items::new(alloc);
+    'more: loop {
+        names.push(reader.take_name()?)?;
+        if !reader.eat(TokenKind::Comma) {
+            return Ok(names);
+        }
+    }
+}

@@ -1,0 +1,57 @@
+use lua_grammar::SyntaxKind;
+use lua_lex::{LexKind, LexStop};
+use rs_base::NoMemory;
+use std::alloc::{AllocError, AllocFailed};
+use thiserror::Error;
+
+/// What is wrong with a text that has no tree.
+#[derive(Clone, Copy, Debug, PartialEq, Eq, Error)]
+pub enum ParseKind {
+    #[error("{0}")]
+    Lex(LexKind),
+    #[error("{0}")]
+    Syntax(SyntaxKind),
+}
+
+/// Why a text has no tree, and the line on which it stops.
+#[derive(Clone, Copy, Debug, PartialEq, Eq, Error)]
+pub enum ParseStop {
+    #[error("line {line}: {kind}")]
+    Bad { line: u32, kind: ParseKind },
+    #[error("out of memory")]
+    NoMemory,
+}
+
+impl From<NoMemory> for ParseStop {
+    ghost use Rattle.std.specs.Prelude.{◌≡◌};
+    ghost use Rattle.lua_parse.specs.declared.stops.ParseStop.{ParseStop};
+
+    ghost from_gives = { λ _ stop. stop ≡ ParseStop.NoMemory };
+
+    fn from(_error: NoMemory) -> ParseStop {
+        ParseStop::NoMemory
+    }
+}
+
+impl From<AllocError> for ParseStop {
+    ghost use Rattle.std.specs.Prelude.{◌≡◌};
+    ghost use Rattle.lua_parse.specs.declared.stops.ParseStop.{ParseStop};
+
+    ghost from_gives = { λ _ stop. stop ≡ ParseStop.NoMemory };
+
+    fn from(_error: AllocError) -> ParseStop {
+        ParseStop::NoMemory
+    }
+}
+
+impl From<LexStop> for ParseStop {
+    fn from(stop: LexStop) -> ParseStop {
+        match stop {
+            LexStop::Bad { line, kind } => ParseStop::Bad {
+                line,
+                kind: ParseKind::Lex(kind),
+            },
+            LexStop::NoMemory => ParseStop::NoMemory,
+        }
+    }
+}
