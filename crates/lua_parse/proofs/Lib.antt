@@ -4,5 +4,6 @@ pub mod LongStrings
 pub mod NumberLemmas
 pub mod Parted
 pub mod Progress
+pub mod Refusals
 pub mod Seen
 pub mod Strings

@@ -3,4 +3,5 @@ pub mod Fronts
 pub mod Nests
 pub mod Numbers
 pub mod Steps
+pub mod Stops
 pub mod Views

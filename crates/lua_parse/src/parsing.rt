@@ -1,8 +1,9 @@
-ghost use Rattle.std.specs.Prelude.{◌<◌, ◌^◌, length, IfOk};
+ghost use Rattle.std.specs.Prelude.{◌<◌, ◌^◌, length, MatchResult};
+ghost use Rattle.lua_grammar.specs.declared.statements.Chunk.{Chunk};
 ghost use Rattle.lua_grammar.specs.Contexts.{main_text};
 ghost use Rattle.lua_grammar.specs.Things as thing;
 ghost use Rattle.lua_grammar.specs.Trees.{HasTree};
-ghost use Rattle.lua_parse.specs.Nests.{Reads};
+ghost use Rattle.lua_parse.specs.Nests.{Reads, Unless};
 
 use crate::grammar::{Found, Wanted, read};
 use crate::numbering::Texts;
@@ -12,10 +13,10 @@ use lua_grammar::{Block, Chunk, Context};
 use lua_lex::{last_line, tokens};
 use std::alloc::Global;
 
-/// The tree of a Lua text (Lua 5.1 manual, 8), or where and why it has none. A lexical fault comes before any other.
+/// The tree of a Lua text (Lua 5.1 manual, 8), or a stop where it has none. A lexical fault comes before any other.
 pub fn parse(alloc: Global, text: &[u8]) -> Result<Chunk, ParseStop>
     requires { length text.now < 2 ^ 31 }
-    ensures { IfOk result (HasTree text.now) }
+    ensures { MatchResult result (HasTree text.now) (λ stop. Unless stop ((chunk : Chunk) → HasTree text.now chunk → ⊥)) }
 {
     let tokens = tokens(alloc, text)?;
     let mut texts = Texts::new(alloc);
