@@ -75,7 +75,7 @@ word_same text t texts w w' after after' is is' =
     let starts = is.start_is ∙ sym is'.start_is in
     (ap₂ (λ (k : TokenKind) (n : ℕ). word_of k n w.line w.start) kinds number ∙ ap₂ (word_of w'.kind w'.text) lines starts, same)
 
-pub words_same : {text : List ℕ} {tokens tokens' : List Token} {words words' : List Word} {texts texts' : List (List ℕ)}
+words_same : {text : List ℕ} {tokens tokens' : List Token} {words words' : List Word} {texts texts' : List (List ℕ)}
     → AreWords text tokens words texts → AreWords text tokens' words' texts' → tokens ≡ tokens' → (words ≡ words') × (texts ≡ texts')
 words_same no_words no_words e = (refl, refl)
 words_same no_words (more_words ws w) e = absurd (nothing_is_end _ _ e)

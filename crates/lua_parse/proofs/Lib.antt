@@ -4,6 +4,5 @@ pub mod LongStrings
 pub mod NumberLemmas
 pub mod Parted
 pub mod Progress
-pub mod Refusals
 pub mod Seen
 pub mod Strings

@@ -1,5 +1,6 @@
 -- Trees put together and taken apart.
 use Rattle.std.proofs.Common.{◌≡◌, List, [], ◌∷◌, ◌++◌, length, refl, sym, ap, ◌∙◌, subst}
+use Rattle.lua_grammar.specs.declared.context.Context.{Context}
 use Rattle.std.proofs.lemmas.List.{same_from_push}
 use Rattle.lua_grammar.specs.declared.expressions.Expr.{Expr, out-Expr}
 use Rattle.lua_grammar.specs.declared.expressions.Call.TheViews.{out-roll-Expr}
@@ -10,10 +11,19 @@ use Rattle.lua_grammar.specs.declared.expressions.Link.{Link}
 use Rattle.lua_grammar.specs.declared.expressions.Suffix.{Suffix}
 use Rattle.lua_grammar.specs.declared.expressions.Key.{Key}
 use Rattle.lua_grammar.specs.declared.statements.Deed.TheVariants as deed_of
+use Rattle.lua_grammar.specs.declared.statements.Target.TheVariants as target_of
+use Rattle.lua_grammar.specs.Positions.{Position}
+use Rattle.lua_grammar.specs.Contexts.{every_rule}
+use Rattle.lua_grammar.specs.Things as thing
 use Rattle.lua_grammar.specs.declared.expressions.Call.{Call}
 use Rattle.lua_grammar.specs.declared.expressions.Suffix.TheVariants as suffix_of
 use Rattle.lua_grammar.specs.Parts as part
 use Rattle.lua_grammar.specs.Parts.{IsReturn, IsCall}
+use Rattle.lua_grammar.specs.Grammar as rule
+use Rattle.lua_grammar.specs.Grammar.{Spelled}
+use Rattle.lua_parse.specs.declared.trees.Front.{Front}
+use Rattle.lua_parse.specs.declared.trees.Front.TheVariants as front
+use Rattle.lua_parse.specs.Fronts.{FrontOf, IsFront}
 
 nothing_is_end : {A : Type 0} (xs : List A) (x : A) → [] ≡ xs ++ x ∷ [] → ⊥
 nothing_is_end [] x e = cc
@@ -45,6 +55,20 @@ suffixed-some head (suffix ∷ suffixes) some = refl
 pub row-some : (first : Expr) (links : List Link) → (links ≡ [] → ⊥) → part.row first links ≡ expr.Row first links
 row-some first [] some = absurd (some refl)
 row-some first (link ∷ links) some = refl
+
+pub front_spelled : {c : Context} {head : Expr} {all : List Suffix} {i j : Position} (found : Front) → FrontOf head all found
+    → Spelled every_rule c (thing.own_chain head all) i j → IsFront c found i j
+front_spelled {c} {head} {all} {i} {j} (front.Target (target_of.Name n)) is s =
+    let P : Expr → Type 0 = λ e. Spelled every_rule c (thing.own_chain e all) i j in
+    let Q : List Suffix → Type 0 = λ xs. Spelled every_rule c (thing.own_chain (expr.Name n) xs) i j in
+    rule.name_target (subst Q is.1 (subst P is.0 s))
+front_spelled {c} {head} {all} {i} {j} (front.Target (target_of.Row e k)) is s =
+    let P : Expr → Type 0 = λ x. Spelled every_rule c (thing.target (target_of.Row x k)) i j in
+    subst P (sym is.1) (rule.row_target is.0 s is.2)
+front_spelled {c} {head} {all} {i} {j} (front.Call e how) is s =
+    let P : Expr → Type 0 = λ x. Spelled every_rule c (thing.deed (deed_of.Call x how)) i j in
+    subst P (sym is.1) (rule.call_statement is.0 s is.2)
+front_spelled {c} {head} {all} {i} {j} front.Neither is s = is
 
 -- a `return` of one value that is no call
 pub no_call : (value : Expr) (values : List Expr) → values ≡ value ∷ []

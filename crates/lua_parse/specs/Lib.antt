@@ -3,5 +3,4 @@ pub mod Fronts
 pub mod Nests
 pub mod Numbers
 pub mod Steps
-pub mod Stops
 pub mod Views

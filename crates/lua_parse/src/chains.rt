@@ -1,17 +1,13 @@
 //! Names and parentheses, and what goes on with them.
 
-ghost use Rattle.std.specs.Prelude.{◌≡◌, ◌≤◌, true, OnErr, MatchResult};
+ghost use Rattle.std.specs.Prelude.{◌≡◌, ◌≤◌, IfOk};
 ghost use Rattle.lua_lex.specs.declared.kinds.TokenKind.TheVariants as kind;
-ghost use Rattle.lua_grammar.specs.Contexts.{every_rule};
-ghost use Rattle.lua_grammar.specs.Grammar.{Spelled};
 ghost use Rattle.lua_grammar.specs.Positions as at;
-ghost use Rattle.lua_grammar.specs.Positions.{Position};
 ghost use Rattle.lua_grammar.specs.Things as thing;
-ghost use Rattle.lua_grammar.specs.Words.{begins_suffix};
-ghost use Rattle.lua_parse.specs.Nests.{IsCounted, Nests, NoChain, NoSuffixes, NoneAt, Reads, ReadsPart, Unless};
+ghost use Rattle.lua_parse.specs.Nests.{IsCounted, Nests, Reads};
 
 use crate::grammar::{Found, Grammar, Wanted};
-use crate::kinds::spared_behind;
+use crate::kinds::begins_call;
 use crate::reader::Reader;
 use crate::stops::ParseStop;
 use crate::trees::only;
@@ -29,7 +25,7 @@ impl<F: Fn(Global, &mut Reader<'_>, Context, Wanted) -> Result<Found, ParseStop>
     ) -> Result<(Expr, Items<Suffix>), ParseStop>
         requires nests { Nests self.now.context.level (F.pre self.now.nested) (F.post self.now.nested) }
         requires spared { spared ≤ 1 }
-        ensures { MatchResult result (λ x. Spelled every_rule self.now.context (thing.chain x.0 x.1) reader.old reader.new) (λ stop. Unless stop (NoChain self.now.context spared reader.old)) }
+        ensures { Reads self.now.context (λ x. thing.chain x.0 x.1) result reader.old reader.new }
     {
         let head = self.head(reader)?;
         let suffixes = self.suffixes(reader, spared)?;
@@ -39,7 +35,7 @@ impl<F: Fn(Global, &mut Reader<'_>, Context, Wanted) -> Result<Found, ParseStop>
     fn suffixes(&self, reader: &mut Reader<'_>, spared: usize) -> Result<Items<Suffix>, ParseStop>
         requires nests { Nests self.now.context.level (F.pre self.now.nested) (F.post self.now.nested) }
         requires spared { spared ≤ 1 }
-        ensures { MatchResult result (λ all. Spelled every_rule self.now.context (thing.suffixes all) reader.old reader.new) (λ stop. Unless stop (NoSuffixes self.now.context spared reader.old)) }
+        ensures { Reads self.now.context thing.suffixes result reader.old reader.new }
     {
         let mut suffixes = Items::new(self.alloc);
         'more: while begins_suffix(reader.peek()) {
@@ -61,7 +57,6 @@ impl<F: Fn(Global, &mut Reader<'_>, Context, Wanted) -> Result<Found, ParseStop>
     /// ( exp )
     fn parenthesis(&self, reader: &mut Reader<'_>) -> Result<Expr, ParseStop>
         requires nests { Nests self.now.context.level (F.pre self.now.nested) (F.post self.now.nested) }
-        requires seen { at.Sees kind.LeftParen reader.old }
         ensures { Reads self.now.context thing.head result reader.old reader.new }
     {
         self.room(reader)?;
@@ -74,19 +69,21 @@ impl<F: Fn(Global, &mut Reader<'_>, Context, Wanted) -> Result<Found, ParseStop>
     fn counted_suffix(&self, reader: &mut Reader<'_>, spared: usize) -> Result<Suffix, ParseStop>
         requires nests { Nests self.now.context.level (F.pre self.now.nested) (F.post self.now.nested) }
         requires spared { spared ≤ 1 }
-        requires begins { begins_suffix (at.kind reader.old) ≡ true }
-        ensures { MatchResult result (λ suffix. IsCounted self.now.context suffix reader.old reader.new) (λ stop. Unless stop (NoSuffixes self.now.context spared reader.old)) }
+        ensures { IfOk result (λ suffix. IsCounted self.now.context suffix reader.old reader.new) }
     {
         self.suffix_room(reader)?;
-        reader.count_suffix(spared_behind(reader.peek(), spared))?;
+        let spared = if begins_call(reader.peek()) {
+            spared
+        } else {
+            0
+        };
+        reader.count_suffix(spared)?;
         let suffix = self.suffix(reader)?;
         Ok(suffix)
     }
 
     // What the first word of a suffix is refused for before the count of suffixes.
-    fn suffix_room(&self, reader: &Reader<'_>) -> Result<(), ParseStop>
-        ensures { OnErr result ((begun : Position) → at.CountsSuffix reader.now begun → NoneAt self.now.context thing.suffix begun) }
-    {
+    fn suffix_room(&self, reader: &Reader<'_>) -> Result<(), ParseStop> {
         match reader.peek() {
             Some(TokenKind::LeftParen) => {
                 reader.near()?;
@@ -111,8 +108,7 @@ impl<F: Fn(Global, &mut Reader<'_>, Context, Wanted) -> Result<Found, ParseStop>
 
     /// . Name
     fn member(&self, reader: &mut Reader<'_>) -> Result<Key, ParseStop>
-        requires { at.Sees kind.Dot reader.old }
-        ensures { ReadsPart self.now.context (λ key. thing.suffix (Suffix.Key key)) thing.suffix result reader.old reader.new }
+        ensures { Reads self.now.context (λ key. thing.suffix (Suffix.Key key)) result reader.old reader.new }
     {
         reader.take(TokenKind::Dot)?;
         Ok(Key::Field(reader.take_name()?))
@@ -121,8 +117,7 @@ impl<F: Fn(Global, &mut Reader<'_>, Context, Wanted) -> Result<Found, ParseStop>
     /// [ exp ]
     fn index(&self, reader: &mut Reader<'_>) -> Result<Key, ParseStop>
         requires nests { Nests self.now.context.level (F.pre self.now.nested) (F.post self.now.nested) }
-        requires seen { at.Sees kind.LeftBracket reader.old }
-        ensures { ReadsPart self.now.context (λ key. thing.suffix (Suffix.Key key)) thing.suffix result reader.old reader.new }
+        ensures { Reads self.now.context (λ key. thing.suffix (Suffix.Key key)) result reader.old reader.new }
     {
         self.room(reader)?;
         reader.take(TokenKind::LeftBracket)?;
@@ -134,8 +129,7 @@ impl<F: Fn(Global, &mut Reader<'_>, Context, Wanted) -> Result<Found, ParseStop>
     /// : Name args
     fn method(&self, reader: &mut Reader<'_>) -> Result<Call, ParseStop>
         requires nests { Nests self.now.context.level (F.pre self.now.nested) (F.post self.now.nested) }
-        requires seen { at.Sees kind.Colon reader.old }
-        ensures { ReadsPart self.now.context (λ how. thing.suffix (Suffix.Call how)) thing.suffix result reader.old reader.new }
+        ensures { Reads self.now.context (λ how. thing.suffix (Suffix.Call how)) result reader.old reader.new }
     {
         reader.take(TokenKind::Colon)?;
         let name = reader.take_name()?;
@@ -156,7 +150,6 @@ impl<F: Fn(Global, &mut Reader<'_>, Context, Wanted) -> Result<Found, ParseStop>
 
     fn table_argument(&self, reader: &mut Reader<'_>) -> Result<Items<Expr>, ParseStop>
         requires nests { Nests self.now.context.level (F.pre self.now.nested) (F.post self.now.nested) }
-        requires seen { at.Sees kind.LeftBrace reader.old }
         ensures { Reads self.now.context thing.arguments result reader.old reader.new }
     {
         let fields = self.constructor(reader)?;
@@ -175,7 +168,6 @@ impl<F: Fn(Global, &mut Reader<'_>, Context, Wanted) -> Result<Found, ParseStop>
     /// ( [exps] )
     fn listed_arguments(&self, reader: &mut Reader<'_>) -> Result<Items<Expr>, ParseStop>
         requires nests { Nests self.now.context.level (F.pre self.now.nested) (F.post self.now.nested) }
-        requires seen { at.Sees kind.LeftParen reader.old }
         ensures { Reads self.now.context thing.arguments result reader.old reader.new }
     {
         reader.near()?;

@@ -1,13 +1,11 @@
 //! Expressions, by precedence.
 
-ghost use Rattle.std.specs.Prelude.{◌≡◌, ◌≤◌, Some, false, MatchResult};
+ghost use Rattle.std.specs.Prelude.{◌≡◌, ◌≤◌, Some};
 ghost use Rattle.lua_lex.specs.declared.kinds.TokenKind.TheVariants as kind;
 ghost use Rattle.lua_grammar.specs.declared.context.Context.{Context};
 ghost use Rattle.lua_grammar.specs.Positions as at;
 ghost use Rattle.lua_grammar.specs.Things as thing;
-ghost use Rattle.lua_grammar.specs.Contexts.{every_rule};
-ghost use Rattle.lua_grammar.specs.Grammar.{Spelled};
-ghost use Rattle.lua_parse.specs.Nests.{BeginsChain, Nests, NoneAt, Reads, Unless, begins_other};
+ghost use Rattle.lua_parse.specs.Nests.{Nests, Reads};
 
 use crate::grammar::{Found, Grammar, Wanted};
 use crate::reader::Reader;
@@ -124,7 +122,7 @@ impl<F: Fn(Global, &mut Reader<'_>, Context, Wanted) -> Result<Found, ParseStop>
     {
         match reader.peek() {
             Some(TokenKind::Name | TokenKind::LeftParen) => self.prefix(reader),
-            Some(TokenKind::LeftBrace) => self.table(reader),
+            Some(TokenKind::LeftBrace) => Ok(Expr::Table(self.constructor(reader)?)),
             Some(TokenKind::Function) => self.function(reader),
             Some(TokenKind::Dots) => self.varargs(reader),
             Some(kind) => constant(reader, kind),
@@ -135,19 +133,10 @@ impl<F: Fn(Global, &mut Reader<'_>, Context, Wanted) -> Result<Found, ParseStop>
     /// A name or a parenthesis, with all that goes on with it.
     fn prefix(&self, reader: &mut Reader<'_>) -> Result<Expr, ParseStop>
         requires nests { Nests self.now.context.level (F.pre self.now.nested) (F.post self.now.nested) }
-        requires begins { BeginsChain (at.kind reader.old) }
         ensures { Reads self.now.context thing.simple result reader.old reader.new }
     {
         let (head, suffixes) = self.chain(reader, 0)?;
         Ok(suffixed(self.alloc, head, suffixes)?)
-    }
-
-    fn table(&self, reader: &mut Reader<'_>) -> Result<Expr, ParseStop>
-        requires nests { Nests self.now.context.level (F.pre self.now.nested) (F.post self.now.nested) }
-        requires seen { at.Sees kind.LeftBrace reader.old }
-        ensures { Reads self.now.context thing.simple result reader.old reader.new }
-    {
-        Ok(Expr::Table(self.constructor(reader)?))
     }
 
     fn varargs(&self, reader: &mut Reader<'_>) -> Result<Expr, ParseStop>
@@ -178,7 +167,7 @@ impl<F: Fn(Global, &mut Reader<'_>, Context, Wanted) -> Result<Found, ParseStop>
 // nil, false, true, a number or a string.
 fn constant(reader: &mut Reader<'_>, kind: TokenKind) -> Result<Expr, ParseStop>
     requires { at.kind reader.old ≡ Some kind }
-    ensures { (c : Context) → MatchResult result (λ e. Spelled every_rule c (thing.simple e) reader.old reader.new) (λ stop. begins_other kind ≡ false → Unless stop (NoneAt c thing.simple reader.old)) }
+    ensures { (c : Context) → Reads c thing.simple result reader.old reader.new }
 {
     let text = reader.name().text;
     match kind {

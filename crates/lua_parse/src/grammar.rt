@@ -1,9 +1,9 @@
 //! The productions call those of the next level of nesting by a function value, so that each is proved by itself.
 
-ghost use Rattle.std.specs.Prelude.{◌≡◌, ◌+◌, ◌<◌, ◌≤◌, MatchResult};
+ghost use Rattle.std.specs.Prelude.{◌≡◌, ◌+◌, ◌<◌, ◌≤◌, OnOk, IfOk};
 ghost use Rattle.lua_grammar.specs.Things as thing;
 ghost use Rattle.lua_grammar.specs.Contexts as context;
-ghost use Rattle.lua_parse.specs.Nests.{Finds, Nests, Reads};
+ghost use Rattle.lua_parse.specs.Nests.{IsFound, Nests, Reads};
 
 use crate::reader::Reader;
 use crate::stops::ParseStop;
@@ -47,7 +47,7 @@ pub fn read(
     wanted: Wanted,
 ) -> Result<Found, ParseStop>
     requires { context.level ≤ 60 }
-    ensures { Finds wanted context result reader.old reader.new }
+    ensures { IfOk result (λ found. IsFound wanted context found reader.old reader.new) }
 {
     let grammar = Grammar {
         alloc,
@@ -66,7 +66,7 @@ pub fn read(
 impl<F: Fn(Global, &mut Reader<'_>, Context, Wanted) -> Result<Found, ParseStop>> Grammar<F> {
     /// Refuses the next word where nothing may nest any deeper.
     pub fn room(&self, reader: &Reader<'_>) -> Result<(), ParseStop>
-        ensures { MatchResult result (λ _. self.now.context.level < 60) (λ _. 60 ≤ self.now.context.level) }
+        ensures { OnOk result (self.now.context.level < 60) }
     {
         if self.context.level >= 60 {
             return Err(reader.stop(SyntaxKind::TooDeep));

@@ -2,21 +2,11 @@
 
 ghost use Rattle.std.specs.Prelude.{◌≡◌};
 ghost use Rattle.lua_grammar.specs.Positions as at;
-ghost use Rattle.lua_parse.specs.Nests as spec;
 
 use lua_lex::TokenKind;
 
-/// How many suffixes a suffix that begins with this word leaves to come: a call leaves `spared`.
-pub fn spared_behind(kind: Option<TokenKind>, spared: usize) -> usize
-    ensures { result ≡ spec.spared_behind kind spared }
-{
-    if begins_call(kind) { spared } else { 0 }
-}
-
-// Whether a suffix that begins with this word is a call.
-fn begins_call(kind: Option<TokenKind>) -> bool
-    ensures { result ≡ spec.begins_call kind }
-{
+/// Whether a suffix that begins with this word is a call.
+pub fn begins_call(kind: Option<TokenKind>) -> bool {
     match kind {
         Some(TokenKind::LeftParen | TokenKind::LeftBrace | TokenKind::Text | TokenKind::Colon) =>
             true,
@@ -45,9 +35,7 @@ pub fn is_named(first: Option<TokenKind>, second: Option<TokenKind>) -> bool
 }
 
 /// Whether the last statement of a block begins with this word.
-pub fn begins_last(kind: Option<TokenKind>) -> bool
-    ensures { result ≡ spec.begins_last kind }
-{
+pub fn begins_last(kind: Option<TokenKind>) -> bool {
     match kind {
         Some(TokenKind::Break | TokenKind::Return) => true,
         _ => false,

@@ -1,13 +1,11 @@
 //! Statements that hold blocks.
 
-ghost use Rattle.std.specs.Prelude.{◌≡◌, ◌<◌, true, false, List, ◌∷◌, MatchResult};
-ghost use Rattle.lua_lex.specs.declared.kinds.TokenKind.TheVariants as kind;
+ghost use Rattle.std.specs.Prelude.{◌≡◌, ◌<◌, List, ◌∷◌, IfOk};
 ghost use Rattle.lua_grammar.specs.declared.statements.Branch.{Branch};
 ghost use Rattle.lua_grammar.specs.Contexts.{every_rule};
-ghost use Rattle.lua_grammar.specs.Positions as at;
 ghost use Rattle.lua_grammar.specs.Things as thing;
 ghost use Rattle.lua_grammar.specs.Grammar.{Spelled};
-ghost use Rattle.lua_parse.specs.Nests.{Nests, NoneAt, Reads, Unless};
+ghost use Rattle.lua_parse.specs.Nests.{Nests, Reads};
 
 use crate::grammar::{Found, Grammar, Wanted};
 use crate::kinds::is_named;
@@ -23,7 +21,6 @@ impl<F: Fn(Global, &mut Reader<'_>, Context, Wanted) -> Result<Found, ParseStop>
     /// do block end
     pub fn do_block(&self, reader: &mut Reader<'_>) -> Result<Deed, ParseStop>
         requires nests { Nests self.now.context.level (F.pre self.now.nested) (F.post self.now.nested) }
-        requires seen { at.Sees kind.Do reader.old }
         ensures { Reads self.now.context thing.deed result reader.old reader.new }
     {
         self.room(reader)?;
@@ -36,7 +33,6 @@ impl<F: Fn(Global, &mut Reader<'_>, Context, Wanted) -> Result<Found, ParseStop>
     /// while exp do block end
     pub fn while_loop(&self, reader: &mut Reader<'_>) -> Result<Deed, ParseStop>
         requires nests { Nests self.now.context.level (F.pre self.now.nested) (F.post self.now.nested) }
-        requires seen { at.Sees kind.While reader.old }
         ensures { Reads self.now.context thing.deed result reader.old reader.new }
     {
         self.room(reader)?;
@@ -48,7 +44,6 @@ impl<F: Fn(Global, &mut Reader<'_>, Context, Wanted) -> Result<Found, ParseStop>
     /// repeat block until exp
     pub fn repeat_loop(&self, reader: &mut Reader<'_>) -> Result<Deed, ParseStop>
         requires nests { Nests self.now.context.level (F.pre self.now.nested) (F.post self.now.nested) }
-        requires seen { at.Sees kind.Repeat reader.old }
         ensures { Reads self.now.context thing.deed result reader.old reader.new }
     {
         self.room(reader)?;
@@ -62,7 +57,6 @@ impl<F: Fn(Global, &mut Reader<'_>, Context, Wanted) -> Result<Found, ParseStop>
     /// if branch {elseif branch} [else block] end
     pub fn if_statement(&self, reader: &mut Reader<'_>) -> Result<Deed, ParseStop>
         requires nests { Nests self.now.context.level (F.pre self.now.nested) (F.post self.now.nested) }
-        requires seen { at.Sees kind.If reader.old }
         ensures { Reads self.now.context thing.deed result reader.old reader.new }
     {
         self.room(reader)?;
@@ -78,7 +72,7 @@ impl<F: Fn(Global, &mut Reader<'_>, Context, Wanted) -> Result<Found, ParseStop>
     fn branches(&self, reader: &mut Reader<'_>, first: Branch) -> Result<Items<Branch>, ParseStop>
         requires nests { Nests self.now.context.level (F.pre self.now.nested) (F.post self.now.nested) }
         requires room { self.now.context.level < 60 }
-        ensures { MatchResult result (λ all. (more : List Branch) × (all ≡ first ∷ more) × Spelled every_rule self.now.context (thing.branches more) reader.old reader.new) (λ stop. Unless stop (NoneAt self.now.context thing.branches reader.old)) }
+        ensures { IfOk result (λ all. (more : List Branch) × (all ≡ first ∷ more) × Spelled every_rule self.now.context (thing.branches more) reader.old reader.new) }
     {
         let mut branches = Items::new(self.alloc);
         branches.push(first)?;
@@ -115,7 +109,6 @@ impl<F: Fn(Global, &mut Reader<'_>, Context, Wanted) -> Result<Found, ParseStop>
 
     pub fn for_loop(&self, reader: &mut Reader<'_>) -> Result<Deed, ParseStop>
         requires nests { Nests self.now.context.level (F.pre self.now.nested) (F.post self.now.nested) }
-        requires seen { at.Sees kind.For reader.old }
         ensures { Reads self.now.context thing.deed result reader.old reader.new }
     {
         self.room(reader)?;
@@ -141,7 +134,6 @@ impl<F: Fn(Global, &mut Reader<'_>, Context, Wanted) -> Result<Found, ParseStop>
     fn numeric_for(&self, reader: &mut Reader<'_>) -> Result<Deed, ParseStop>
         requires nests { Nests self.now.context.level (F.pre self.now.nested) (F.post self.now.nested) }
         requires room { self.now.context.level < 60 }
-        requires named { at.names_field reader.old ≡ true }
         ensures { Reads self.now.context thing.for_range result reader.old reader.new }
     {
         let name = reader.take_name()?;
@@ -169,7 +161,6 @@ impl<F: Fn(Global, &mut Reader<'_>, Context, Wanted) -> Result<Found, ParseStop>
     fn generic_for(&self, reader: &mut Reader<'_>) -> Result<Deed, ParseStop>
         requires nests { Nests self.now.context.level (F.pre self.now.nested) (F.post self.now.nested) }
         requires room { self.now.context.level < 60 }
-        requires unnamed { at.names_field reader.old ≡ false }
         ensures { Reads self.now.context thing.for_range result reader.old reader.new }
     {
         let names = names(self.alloc, reader)?;

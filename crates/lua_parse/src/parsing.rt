@@ -1,9 +1,8 @@
-ghost use Rattle.std.specs.Prelude.{◌<◌, ◌^◌, length, MatchResult};
-ghost use Rattle.lua_grammar.specs.declared.statements.Chunk.{Chunk};
+ghost use Rattle.std.specs.Prelude.{◌<◌, ◌^◌, length, IfOk};
 ghost use Rattle.lua_grammar.specs.Contexts.{main_text};
 ghost use Rattle.lua_grammar.specs.Things as thing;
 ghost use Rattle.lua_grammar.specs.Trees.{HasTree};
-ghost use Rattle.lua_parse.specs.Nests.{Reads, Unless};
+ghost use Rattle.lua_parse.specs.Nests.{Reads};
 
 use crate::grammar::{Found, Wanted, read};
 use crate::numbering::Texts;
@@ -13,10 +12,10 @@ use lua_grammar::{Block, Chunk, Context};
 use lua_lex::{last_line, tokens};
 use std::alloc::Global;
 
-/// The tree of a Lua text (Lua 5.1 manual, 8), or a stop where it has none. A lexical fault comes before any other.
+/// The tree of a Lua text (Lua 5.1 manual, 8), or where and why it has none. A lexical fault comes before any other.
 pub fn parse(alloc: Global, text: &[u8]) -> Result<Chunk, ParseStop>
     requires { length text.now < 2 ^ 31 }
-    ensures { MatchResult result (HasTree text.now) (λ stop. Unless stop ((chunk : Chunk) → HasTree text.now chunk → ⊥)) }
+    ensures { IfOk result (HasTree text.now) }
 {
     let tokens = tokens(alloc, text)?;
     let mut texts = Texts::new(alloc);

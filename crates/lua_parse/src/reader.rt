@@ -1,10 +1,8 @@
 //! A cursor over the words of a text, with the counts of the expression at hand and the bodies of the functions so far.
 
-ghost use Rattle.std.specs.Prelude.{◌≡◌, ◌≢◌, ◌<◌, ◌^◌, ◌≤◌, ◌+◌, ◌↔◌, [], length, suc, true, false, IsTrue, Err, IfOk, OnOk, OnErr, MatchResult};
-ghost use Rattle.lua_lex.specs.declared.kinds.TokenKind.TheVariants as mark;
+ghost use Rattle.std.specs.Prelude.{◌≡◌, ◌<◌, ◌^◌, ◌≤◌, ◌+◌, ◌↔◌, [], length, suc, true, false, IsTrue, Err, IfOk, OnOk, IfErr};
 ghost use Rattle.lua_grammar.specs.Positions as at;
 ghost use Rattle.lua_grammar.specs.Trees.{start};
-ghost use Rattle.lua_parse.specs.Nests.{Unless};
 ghost use Rattle.lua_parse.specs.Steps as step;
 
 use crate::stops::{ParseKind, ParseStop};
@@ -161,7 +159,7 @@ impl<'a> Reader<'a> {
     /// Goes behind the next word, which has to be of this kind.
     pub fn take(&mut self, kind: TokenKind) -> Result<(), ParseStop>
         requires { step.IsMark kind }
-        ensures { MatchResult result (λ _. at.Takes kind self.old self.new) (λ _. at.SeesNot kind self.old) }
+        ensures { OnOk result (at.Takes kind self.old self.new) }
     {
         if !self.sees(kind) {
             return self.unexpected();
@@ -193,7 +191,7 @@ impl<'a> Reader<'a> {
     }
 
     pub fn take_name(&mut self) -> Result<Name, ParseStop>
-        ensures { MatchResult result (λ name. at.TakesName name self.old self.new) (λ _. at.SeesNot mark.Name self.old) }
+        ensures { IfOk result (λ name. at.TakesName name self.old self.new) }
     {
         let name = self.name();
         self.take(TokenKind::Name)?;
@@ -226,7 +224,6 @@ impl<'a> Reader<'a> {
     pub fn pass_operator(&mut self) -> Result<(), ParseStop>
         ensures short { OnOk result (self.old.operators < 1000) }
         ensures passed { OnOk result (self.new ≡ at.next (record self.old { operators = suc self.old.operators })) }
-        ensures long { OnErr result (1000 ≤ self.old.operators) }
     {
         if self.operators >= MOST {
             return Err(self.stop(SyntaxKind::TooLong));
@@ -241,7 +238,6 @@ impl<'a> Reader<'a> {
         requires { spared ≤ 1 }
         ensures short { OnOk result (self.old.suffixes < 1000) }
         ensures counted { OnOk result (at.CountsSuffix self.old self.new) }
-        ensures long { OnErr result (1000 ≤ self.old.suffixes + spared) }
     {
         if self.suffixes >= MOST || self.suffixes + spared >= MOST {
             return Err(self.stop(SyntaxKind::TooLong));
@@ -252,7 +248,7 @@ impl<'a> Reader<'a> {
 
     /// Refuses a next word that is not on the line of the word before it.
     pub fn near(&self) -> Result<(), ParseStop>
-        ensures { MatchResult result (λ _. at.IsNear self.now) (λ _. at.IsNear self.now → ⊥) }
+        ensures { OnOk result (at.IsNear self.now) }
     {
         if self.name().line != self.line {
             return Err(self.stop(SyntaxKind::Ambiguous));
@@ -263,7 +259,7 @@ impl<'a> Reader<'a> {
     /// Keeps a place for the body of a function, whose parameters' `(` comes next, and goes behind that. Gives the number of
     /// the place.
     pub fn begin_body(&mut self, alloc: Global) -> Result<u32, ParseStop>
-        ensures { MatchResult result (λ number. step.OpensBody number self.old self.new) (λ stop. Unless stop (at.SeesNot mark.LeftParen self.old)) }
+        ensures { IfOk result (λ number. step.OpensBody number self.old self.new) }
     {
         let _words = self.words;
         self.take(TokenKind::LeftParen)?;
@@ -290,7 +286,6 @@ impl<'a> Reader<'a> {
     pub fn finish(self) -> Result<Items<Body>, ParseStop>
         ensures whole { OnOk result (self.entry.words ≡ []) }
         ensures bodies { IfOk result (λ bodies. bodies ≡ self.entry.bodies) }
-        ensures left { OnErr result (self.entry.words ≢ []) }
     {
         if !self.words.is_empty() {
             let stop = self.stop(SyntaxKind::Unexpected);

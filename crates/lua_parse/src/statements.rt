@@ -1,6 +1,6 @@
 //! Blocks, and statements that hold none.
 
-ghost use Rattle.std.specs.Prelude.{◌≤◌, ◌<◌, MatchResult};
+ghost use Rattle.std.specs.Prelude.{◌≤◌, ◌<◌, IfOk};
 ghost use Rattle.lua_lex.specs.declared.kinds.TokenKind.TheVariants as kind;
 ghost use Rattle.lua_grammar.specs.declared.context.Context.{Context};
 ghost use Rattle.lua_grammar.specs.Contexts.{every_rule};
@@ -9,7 +9,7 @@ ghost use Rattle.lua_grammar.specs.Positions.{Position};
 ghost use Rattle.lua_grammar.specs.Things as thing;
 ghost use Rattle.lua_grammar.specs.Grammar.{Spelled};
 ghost use Rattle.lua_parse.specs.Fronts.{IsFront};
-ghost use Rattle.lua_parse.specs.Nests.{BeginsChain, EndsBlock, IsMethod, Nests, NoLast, NoMethod, NoOwnChain, Reads, Unless};
+ghost use Rattle.lua_parse.specs.Nests.{EndsBlock, IsMethod, Nests, Reads};
 
 use crate::grammar::{Found, Grammar, Wanted};
 use crate::kinds::begins_last;
@@ -55,7 +55,7 @@ impl<F: Fn(Global, &mut Reader<'_>, Context, Wanted) -> Result<Found, ParseStop>
     /// last [;], with the end of the block behind it
     fn last(&self, reader: &mut Reader<'_>) -> Result<Stat, ParseStop>
         requires nests { Nests self.now.context.level (F.pre self.now.nested) (F.post self.now.nested) }
-        ensures { MatchResult result (λ last. EndsBlock self.now.context last reader.old reader.new) (λ stop. Unless stop (NoLast self.now.context reader.old)) }
+        ensures { IfOk result (λ last. EndsBlock self.now.context last reader.old reader.new) }
     {
         let line = reader.name().line;
         let deed = self.last_deed(reader)?;
@@ -82,7 +82,6 @@ impl<F: Fn(Global, &mut Reader<'_>, Context, Wanted) -> Result<Found, ParseStop>
     }
 
     fn break_statement(&self, reader: &mut Reader<'_>) -> Result<Deed, ParseStop>
-        requires { at.Sees kind.Break reader.old }
         ensures { Reads self.now.context thing.last_deed result reader.old reader.new }
     {
         if !self.context.in_loop {
@@ -112,7 +111,6 @@ impl<F: Fn(Global, &mut Reader<'_>, Context, Wanted) -> Result<Found, ParseStop>
     /// function Name {. Name} [: Name] body
     fn function_statement(&self, reader: &mut Reader<'_>) -> Result<Deed, ParseStop>
         requires nests { Nests self.now.context.level (F.pre self.now.nested) (F.post self.now.nested) }
-        requires seen { at.Sees kind.Function reader.old }
         ensures { Reads self.now.context thing.deed result reader.old reader.new }
     {
         self.room(reader)?;
@@ -138,7 +136,7 @@ impl<F: Fn(Global, &mut Reader<'_>, Context, Wanted) -> Result<Found, ParseStop>
     ) -> Result<Deed, ParseStop>
         requires nests { Nests self.now.context.level (F.pre self.now.nested) (F.post self.now.nested) }
         requires room { self.now.context.level < 60 }
-        ensures { MatchResult result (λ deed. IsMethod self.now.context line name path deed reader.old reader.new) (λ stop. Unless stop (NoMethod self.now.context line reader.old)) }
+        ensures { IfOk result (λ deed. IsMethod self.now.context line name path deed reader.old reader.new) }
     {
         path.push(reader.take_name()?)?;
         let number = self.function_body(reader, line, true)?;
@@ -147,7 +145,6 @@ impl<F: Fn(Global, &mut Reader<'_>, Context, Wanted) -> Result<Found, ParseStop>
 
     fn local(&self, reader: &mut Reader<'_>) -> Result<Deed, ParseStop>
         requires nests { Nests self.now.context.level (F.pre self.now.nested) (F.post self.now.nested) }
-        requires seen { at.Sees kind.Local reader.old }
         ensures { Reads self.now.context thing.deed result reader.old reader.new }
     {
         reader.take(TokenKind::Local)?;
@@ -162,8 +159,7 @@ impl<F: Fn(Global, &mut Reader<'_>, Context, Wanted) -> Result<Found, ParseStop>
     /// function Name body, behind `local`
     fn local_function(&self, reader: &mut Reader<'_>) -> Result<Deed, ParseStop>
         requires nests { Nests self.now.context.level (F.pre self.now.nested) (F.post self.now.nested) }
-        requires seen { at.Sees kind.Function reader.old }
-        ensures { (start : Position) → at.Takes kind.Local start reader.old → Reads self.now.context thing.deed result start reader.new }
+        ensures { IfOk result (λ deed. (start : Position) → at.Takes kind.Local start reader.old → Spelled every_rule self.now.context (thing.deed deed) start reader.new) }
     {
         self.room(reader)?;
         let line = reader.name().line;
@@ -188,7 +184,6 @@ impl<F: Fn(Global, &mut Reader<'_>, Context, Wanted) -> Result<Found, ParseStop>
     /// A call, or an assignment.
     fn chain_statement(&self, reader: &mut Reader<'_>) -> Result<Deed, ParseStop>
         requires nests { Nests self.now.context.level (F.pre self.now.nested) (F.post self.now.nested) }
-        requires begins { BeginsChain (at.kind reader.old) }
         ensures { Reads self.now.context thing.deed result reader.old reader.new }
     {
         match self.front(reader, 0)? {
@@ -205,7 +200,7 @@ impl<F: Fn(Global, &mut Reader<'_>, Context, Wanted) -> Result<Found, ParseStop>
     fn front(&self, reader: &mut Reader<'_>, spared: usize) -> Result<Front, ParseStop>
         requires nests { Nests self.now.context.level (F.pre self.now.nested) (F.post self.now.nested) }
         requires spared { spared ≤ 1 }
-        ensures { MatchResult result (λ front. IsFront self.now.context front reader.old reader.new) (λ stop. Unless stop (NoOwnChain self.now.context spared reader.old)) }
+        ensures { IfOk result (λ front. IsFront self.now.context front reader.old reader.new) }
     {
         let counts = reader.begin_expression();
         let (head, suffixes) = self.chain(reader, spared)?;
@@ -216,7 +211,7 @@ impl<F: Fn(Global, &mut Reader<'_>, Context, Wanted) -> Result<Found, ParseStop>
     /// vars = exps, behind the first of them
     fn assignment(&self, reader: &mut Reader<'_>, first: Target) -> Result<Deed, ParseStop>
         requires nests { Nests self.now.context.level (F.pre self.now.nested) (F.post self.now.nested) }
-        ensures { (start : Position) → Spelled every_rule self.now.context (thing.target first) start reader.old → Reads self.now.context thing.deed result start reader.new }
+        ensures { IfOk result (λ deed. (start : Position) → Spelled every_rule self.now.context (thing.target first) start reader.old → Spelled every_rule self.now.context (thing.deed deed) start reader.new) }
     {
         let mut targets = Items::new(self.alloc);
         targets.push(first)?;

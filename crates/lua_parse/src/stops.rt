@@ -45,11 +45,6 @@ impl From<AllocError> for ParseStop {
 }
 
 impl From<LexStop> for ParseStop {
-    ghost use Rattle.std.specs.Prelude.{◌≡◌};
-    ghost use Rattle.lua_parse.specs.Stops.{of_lexical};
-
-    ghost from_gives = { λ lexical stop. stop ≡ of_lexical lexical };
-
     fn from(stop: LexStop) -> ParseStop {
         match stop {
             LexStop::Bad { line, kind } => ParseStop::Bad {

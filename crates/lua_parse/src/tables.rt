@@ -1,8 +1,5 @@
 //! Table constructors.
 
-ghost use Rattle.std.specs.Prelude.{◌≡◌, true};
-ghost use Rattle.lua_lex.specs.declared.kinds.TokenKind.TheVariants as kind;
-ghost use Rattle.lua_grammar.specs.Positions as at;
 ghost use Rattle.lua_grammar.specs.Things as thing;
 ghost use Rattle.lua_parse.specs.Nests.{Nests, Reads};
 
@@ -60,7 +57,6 @@ impl<F: Fn(Global, &mut Reader<'_>, Context, Wanted) -> Result<Found, ParseStop>
     /// [ exp ] = exp
     fn keyed(&self, reader: &mut Reader<'_>) -> Result<Field, ParseStop>
         requires nests { Nests self.now.context.level (F.pre self.now.nested) (F.post self.now.nested) }
-        requires seen { at.Sees kind.LeftBracket reader.old }
         ensures { Reads self.now.context thing.field result reader.old reader.new }
     {
         reader.take(TokenKind::LeftBracket)?;
@@ -73,7 +69,6 @@ impl<F: Fn(Global, &mut Reader<'_>, Context, Wanted) -> Result<Found, ParseStop>
     /// Name = exp
     fn named(&self, reader: &mut Reader<'_>) -> Result<Field, ParseStop>
         requires nests { Nests self.now.context.level (F.pre self.now.nested) (F.post self.now.nested) }
-        requires named { at.names_field reader.old ≡ true }
         ensures { Reads self.now.context thing.field result reader.old reader.new }
     {
         let name = reader.take_name()?;

@@ -1,12 +1,7 @@
-use Rattle.std.proofs.Common.{◌≡◌, refl}
-use Rattle.std.proofs.lemmas.Result.{err_from_is_err_and}
-use Rattle.lua_grammar.proofs.Inversions.{form}
+use Rattle.std.proofs.Common.{◌≡◌}
+use Rattle.lua_grammar.specs.Grammar as rule
 use Rattle.lua_parse.proofs.Leads.{no_parameter_yet, one_more_parameter, last_parameter, dots_behind}
 use Rattle.lua_parse.proofs.Progress.{takes, takes_name, eaten, eats_also}
-use Rattle.lua_parse.proofs.Refusals.{no_parameter}
-use Rattle.lua_parse.proofs.Seen.{sees_not}
-use Rattle.lua_grammar.specs.Grammar as rule
-use Rattle.lua_lex.specs.declared.kinds.TokenKind.TheVariants as kind
 use Rattle.lua_parse.proofs.bodies.parameters.Goals as goal
 
 pub returns-then-sees : goal.returns-then-sees
@@ -33,13 +28,3 @@ pub more-smaller : goal.more-smaller
 more-smaller c =
     let none : c.eat.new.self ≡ c.more.reader = (c.eat.ensures.unseen (cc)).0 in
     (eats_also (takes_name (rw none at c.in_ok-take_name.ensures)) (eaten (takes (c.eat-in-more.ensures.seen (cc))))).words
-
-pub returns-in_err-take_name : goal.returns-in_err-take_name
-returns-in_err-take_name c = λ context. let p = err_from_is_err_and c.from_residual.result c.from_residual.ensures.1 in
-    rw (p.1, p.2) (λ n x z s. (c.more.invariant context).none (λ names varargs end closed s'.
-        let none : c.eat.new.self ≡ c.more.reader = (c.eat.ensures.unseen (cc)).0 in
-        no_parameter _ closed (c.eat.ensures.unseen (cc)).1 (rw none at c.in_err-take_name.ensures) (form s')) x.0 x.1 z (sees_not kind.RightParen c.args.reader.now c.sees.ensures (cc)) s)
-
-pub returns-in_err-push : goal.returns-in_err-push
-returns-in_err-push c = λ context. let p = err_from_is_err_and c.from_residual-in_err-push.result c.from_residual-in_err-push.ensures.1 in
-    rw (p.1, p.2) (λ n. absurd (n refl))

@@ -1,11 +1,8 @@
-use Rattle.std.proofs.Common.{sym, ap, ◌∙◌, refl}
-use Rattle.std.proofs.lemmas.Result.{err_from_is_err_and}
-use Rattle.lua_grammar.proofs.Inversions.{moved, form, rest_at}
-use Rattle.lua_grammar.proofs.Once.{once}
+use Rattle.std.proofs.Common.{sym, ap, ◌∙◌}
+use Rattle.lua_grammar.specs.Grammar as rule
 use Rattle.lua_parse.proofs.Leads.{none_yet, one_more, ended, ended_by}
 use Rattle.lua_parse.proofs.Progress.{goes, also_eats}
 use Rattle.lua_parse.proofs.Seen.{sees_not, separator_passes, separator_eats}
-use Rattle.lua_grammar.specs.Grammar as rule
 use Rattle.lua_grammar.specs.Positions as at
 use Rattle.lua_lex.specs.declared.kinds.TokenKind.TheVariants as kind
 use Rattle.lua_parse.proofs.grammar.Grammar.fields.Goals as goal
@@ -18,6 +15,12 @@ returns-then-not-is_separator g c =
     let no = sees_not kind.RightBrace c.more.reader c.sees.ensures (cc) in
     ended_by c.more.invariant c.in_ok-push.ensures.ok (rule.last_field no c.in_ok-field.ensures (sym (c.is_separator.ensures ∙ ap at.is_separator c.peek.ensures) ∙ cc))
 
+pub more-preserved : goal.more-preserved
+more-preserved g c =
+    let no = sees_not kind.RightBrace c.more.reader c.sees.ensures (cc) in
+    let some = sym (c.is_separator.ensures ∙ ap at.is_separator c.peek.ensures) ∙ cc in
+    let p = separator_passes some c.pass.ensures in
+    one_more c.more.invariant c.in_ok-push.ensures.ok (λ rest end s. rule.more_fields no c.in_ok-field.ensures some p s)
 
 pub more-smaller : goal.more-smaller
 more-smaller g c =
@@ -26,22 +29,3 @@ more-smaller g c =
 
 pub returns : goal.returns
 returns g c = ended c.more.invariant (rule.no_fields (c.sees.ensures.0 (cc)))
-
-pub returns-in_err-field : goal.returns-in_err-field
-returns-in_err-field g c = let p = err_from_is_err_and c.from_residual.result c.from_residual.ensures.1 in
-    rw (p.1, p.2) (λ n. c.more.invariant.none (λ fs z s. let no = sees_not kind.RightBrace c.more.reader c.sees.ensures (cc) in let (f, k, x, rest) = (form s).1 no in c.in_err-field.ensures n _ _ x))
-
-pub returns-in_err-push : goal.returns-in_err-push
-returns-in_err-push g c = let p = err_from_is_err_and c.from_residual-in_err-push.result c.from_residual-in_err-push.ensures.1 in
-    rw (p.1, p.2) (λ n. absurd (n refl))
-
-pub more-preserved : goal.more-preserved
-more-preserved g c = 
-    let no = sees_not kind.RightBrace c.more.reader c.sees.ensures (cc) in
-    let some = sym (c.is_separator.ensures ∙ ap at.is_separator c.peek.ensures) ∙ cc in
-    let p = separator_passes some c.pass.ensures in
-    one_more c.more.invariant c.in_ok-push.ensures.ok (λ rest end s. rule.more_fields no c.in_ok-field.ensures some p s) (λ none fs z s.
-        let (f, k, x, rest) = (form s).1 no in
-        let (same, to) = once c.in_ok-field.ensures _ _ x in
-        let (more, is, xs) = rest_at _ _ _ _ _ to some rest in
-        none _ _ (moved (sym (p.taken ∙ ap at.next to)) xs))

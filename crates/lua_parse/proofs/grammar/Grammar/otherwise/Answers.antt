@@ -1,6 +1,3 @@
-use Rattle.std.proofs.lemmas.Result.{err_from_is_err_and}
-use Rattle.std.proofs.Common.{sym}
-use Rattle.lua_grammar.proofs.Inversions.{moved, form}
 use Rattle.lua_grammar.specs.Grammar as rule
 use Rattle.lua_parse.proofs.grammar.Grammar.otherwise.Goals as goal
 
@@ -9,7 +6,3 @@ returns-then-not-eat g c = let no = c.eat.ensures.unseen (cc) in rw (c.new.ensur
 
 pub returns : goal.returns
 returns g c = rule.else_block (c.eat.ensures.seen (cc)) c.requires.room (rw c.inner.ensures at c.in_ok-block.ensures)
-
-pub returns-in_err-block : goal.returns-in_err-block
-returns-in_err-block g c = let p = err_from_is_err_and c.from_residual.result c.from_residual.ensures.1 in
-    rw (p.1, p.2) (λ n b z s. let t = c.eat.ensures.seen (cc) in let (r, x) = (form s).0 t.seen in (rw c.inner.ensures at c.in_err-block.ensures) n _ _ (moved (sym t.taken) x))

@@ -1,6 +1,3 @@
-use Rattle.std.proofs.lemmas.Result.{err_from_is_err_and}
-use Rattle.std.proofs.Common.{sym}
-use Rattle.lua_grammar.proofs.Inversions.{moved, form}
 use Rattle.lua_grammar.specs.Grammar as rule
 use Rattle.lua_parse.proofs.grammar.Grammar.step.Goals as goal
 
@@ -9,7 +6,3 @@ returns-then-not-eat g c = let no = c.eat.ensures.unseen (cc) in rw no.0 (rule.n
 
 pub returns : goal.returns
 returns g c = rule.step (c.eat.ensures.seen (cc)) c.in_ok-expression.ensures
-
-pub returns-in_err-expression : goal.returns-in_err-expression
-returns-in_err-expression g c = let p = err_from_is_err_and c.from_residual.result c.from_residual.ensures.1 in
-    rw (p.1, p.2) (λ n e z s. let t = c.eat.ensures.seen (cc) in let (inside, is, x) = (form s).0 t.seen in c.in_err-expression.ensures n _ _ (moved (sym t.taken) x))

@@ -1,30 +1,18 @@
-use Rattle.std.proofs.Common.{sym, ap, ◌∙◌, refl}
-use Rattle.std.proofs.lemmas.Result.{err_from_is_err_and}
-use Rattle.lua_grammar.specs.Words.{begins_suffix}
-use Rattle.lua_parse.proofs.Leads.{none_yet, one_more, ended, no_suffix_yet, one_more_suffix}
-use Rattle.lua_parse.proofs.Progress.{counts, also_eats, eats_suffix}
+use Rattle.std.proofs.Common.{sym, ap, ◌∙◌}
 use Rattle.lua_grammar.specs.Grammar as rule
+use Rattle.lua_parse.proofs.Leads.{none_yet, one_more, ended}
+use Rattle.lua_parse.proofs.Progress.{counts, also_eats, eats_suffix}
+use Rattle.lua_grammar.specs.Words.{begins_suffix}
 use Rattle.lua_parse.proofs.grammar.Grammar.suffixes.Goals as goal
+
+pub more-init : goal.more-init
+more-init g c = rw c.new-suffixes.ensures none_yet
+
+pub more-preserved : goal.more-preserved
+more-preserved g c = let k = c.in_ok-counted_suffix.ensures in one_more c.more.invariant c.in_ok-push.ensures.ok (λ rest end s. rule.more_suffixes k.short k.counts k.spelled s)
 
 pub more-smaller : goal.more-smaller
 more-smaller g c = let k = c.in_ok-counted_suffix.ensures in (also_eats (counts k.counts) (eats_suffix k.spelled)).words
 
-pub more-init : goal.more-init
-more-init g c = rw c.new-suffixes.ensures no_suffix_yet
-
-pub counted_suffix-requires-clause-begins : goal.counted_suffix-requires-clause-begins
-counted_suffix-requires-clause-begins g c = sym (c.begins_suffix.ensures ∙ ap begins_suffix c.peek.ensures) ∙ cc
-
-pub more-preserved : goal.more-preserved
-more-preserved g c = one_more_suffix c.more.invariant c.in_ok-push.ensures.ok (sym (c.begins_suffix.ensures ∙ ap begins_suffix c.peek.ensures) ∙ cc) c.in_ok-counted_suffix.ensures
-
-pub returns-in_err-counted_suffix : goal.returns-in_err-counted_suffix
-returns-in_err-counted_suffix g c = let p = err_from_is_err_and c.from_residual.result c.from_residual.ensures.1 in
-    rw (p.1, p.2) (λ n. c.more.invariant.none_sought (c.in_err-counted_suffix.ensures n))
-
-pub returns-in_err-push : goal.returns-in_err-push
-returns-in_err-push g c = let p = err_from_is_err_and c.from_residual-in_err-push.result c.from_residual-in_err-push.ensures.1 in
-    rw (p.1, p.2) (λ n. absurd (n refl))
-
 pub returns : goal.returns
-returns g c = ended c.more.invariant.leads (rule.no_suffixes (sym (c.begins_suffix.ensures ∙ ap begins_suffix c.peek.ensures) ∙ cc))
+returns g c = ended c.more.invariant (rule.no_suffixes (sym (c.begins_suffix.ensures ∙ ap begins_suffix c.peek.ensures) ∙ cc))
