@@ -39,7 +39,7 @@ abbrev suffixes_in : {A B C D E F : Type 0} → Expr-F A B C D E F → List E
 suffixes_in (Expr-F.Suffixed head all) = all
 suffixes_in _ = []
 
-suffixed_out : (head : Expr) (all : List Suffix) → out-Expr (expr.Suffixed head all) ≡ Expr-F.Suffixed head all
+pub suffixed_out : (head : Expr) (all : List Suffix) → out-Expr (expr.Suffixed head all) ≡ Expr-F.Suffixed head all
 suffixed_out head all = ap out-Expr (sym (rolls-Suffixed head all)) ∙ out-roll-Expr _
 
 pub same_suffixed : (head head' : Expr) (all all' : List Suffix) → expr.Suffixed head all ≡ expr.Suffixed head' all'

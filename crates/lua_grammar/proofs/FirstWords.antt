@@ -13,12 +13,8 @@ use Rattle.lua_grammar.specs.Things as thing
 use Rattle.lua_grammar.specs.Things.{Thing}
 use Rattle.lua_grammar.specs.Grammar as by
 use Rattle.lua_grammar.specs.Grammar.{Spelled}
-
--- a name or a parenthesis
-abbrev pub begins_chain : Option TokenKind → Bool
-begins_chain (Some kind.Name) = true
-begins_chain (Some kind.LeftParen) = true
-begins_chain _ = false
+use Rattle.lua_grammar.specs.Rows.{begins_chain, begins_arguments, begins_last}
+use Rattle.lua_grammar.specs.Stuck.{begins_deed}
 
 abbrev pub begins_names : Option TokenKind → Bool
 begins_names (Some kind.Name) = true
@@ -27,12 +23,6 @@ begins_names _ = false
 abbrev pub begins_table : Option TokenKind → Bool
 begins_table (Some kind.LeftBrace) = true
 begins_table _ = false
-
-abbrev pub begins_arguments : Option TokenKind → Bool
-begins_arguments (Some kind.LeftParen) = true
-begins_arguments (Some kind.LeftBrace) = true
-begins_arguments (Some kind.Text) = true
-begins_arguments _ = false
 
 abbrev pub begins_expression : Option TokenKind → Bool
 begins_expression (Some kind.Nil) = true
@@ -50,23 +40,6 @@ begins_expression (Some kind.Hash) = true
 begins_expression (Some kind.Minus) = true
 begins_expression _ = false
 
-abbrev pub begins_statement : Option TokenKind → Bool
-begins_statement (Some kind.Do) = true
-begins_statement (Some kind.While) = true
-begins_statement (Some kind.Repeat) = true
-begins_statement (Some kind.If) = true
-begins_statement (Some kind.For) = true
-begins_statement (Some kind.Function) = true
-begins_statement (Some kind.Local) = true
-begins_statement (Some kind.Name) = true
-begins_statement (Some kind.LeftParen) = true
-begins_statement _ = false
-
-abbrev pub begins_last : Option TokenKind → Bool
-begins_last (Some kind.Break) = true
-begins_last (Some kind.Return) = true
-begins_last _ = false
-
 abbrev pub anything : Option TokenKind → Bool
 anything w = true
 
@@ -83,9 +56,9 @@ begins (thing.target _) = begins_chain
 begins (thing.suffix _) = begins_suffix
 begins (thing.arguments _) = begins_arguments
 begins (thing.constructor _) = begins_table
-begins (thing.deed _) = begins_statement
+begins (thing.deed _) = begins_deed
 begins (thing.names _) = begins_names
-begins (thing.statement _) = begins_statement
+begins (thing.statement _) = begins_deed
 begins (thing.last _) = begins_last
 begins (thing.last_deed _) = begins_last
 begins _ = anything
@@ -109,10 +82,10 @@ table_arguments_begin : (w : Option TokenKind) → begins_table w ≡ true → b
 table_arguments_begin (Some kind.LeftBrace) e = refl
 table_arguments_begin w e = cc
 
-chain_statements_begin : (w : Option TokenKind) → begins_chain w ≡ true → begins_statement w ≡ true
-chain_statements_begin (Some kind.Name) e = refl
-chain_statements_begin (Some kind.LeftParen) e = refl
-chain_statements_begin w e = cc
+chain_deeds_begin : (w : Option TokenKind) → begins_chain w ≡ true → begins_deed w ≡ true
+chain_deeds_begin (Some kind.Name) e = refl
+chain_deeds_begin (Some kind.LeftParen) e = refl
+chain_deeds_begin w e = cc
 
 arguments_begin : (w : Option TokenKind) → begins_arguments w ≡ true → begins_suffix w ≡ true
 arguments_begin (Some kind.LeftParen) e = refl
@@ -158,22 +131,22 @@ first_word (by.last l x s) = first_word x
 first_word (by.break_statement t k) = ap begins_last t.seen
 first_word (by.return_nothing t e) = ap begins_last t.seen
 first_word (by.return_values t e x r) = ap begins_last t.seen
-first_word (by.do_block t r x u) = ap begins_statement t.seen
-first_word (by.while_loop t x y) = ap begins_statement t.seen
-first_word (by.repeat_loop t r x u y) = ap begins_statement t.seen
-first_word (by.if_statement t x y z u) = ap begins_statement t.seen
-first_word (by.for_loop t x) = ap begins_statement t.seen
-first_word (by.function_statement l t n p s x) = ap begins_statement t.seen
-first_word (by.method_statement l t n p u m x) = ap begins_statement t.seen
-first_word (by.local_function t l u n x) = ap begins_statement t.seen
-first_word (by.local t x y) = ap begins_statement t.seen
+first_word (by.do_block t r x u) = ap begins_deed t.seen
+first_word (by.while_loop t x y) = ap begins_deed t.seen
+first_word (by.repeat_loop t r x u y) = ap begins_deed t.seen
+first_word (by.if_statement t x y z u) = ap begins_deed t.seen
+first_word (by.for_loop t x) = ap begins_deed t.seen
+first_word (by.function_statement l t n p s x) = ap begins_deed t.seen
+first_word (by.method_statement l t n p u m x) = ap begins_deed t.seen
+first_word (by.local_function t l u n x) = ap begins_deed t.seen
+first_word (by.local t x y) = ap begins_deed t.seen
 first_word (by.one_name t n) = ap begins_names t.seen
 first_word (by.more_names t u ns) = ap begins_names t.seen
-first_word (by.assign x t y) = chain_statements_begin _ (first_word x)
+first_word (by.assign x t y) = chain_deeds_begin _ (first_word x)
 first_word (by.one_target x s) = first_word x
 first_word (by.more_targets x t xs) = first_word x
 first_word (by.own_chain b x r) = begun begins_chain b (first_word x)
 first_word (by.name_target x) = first_word x
 first_word (by.row_target ss x e) = first_word x
-first_word (by.call_statement ss x e) = chain_statements_begin _ (first_word x)
+first_word (by.call_statement ss x e) = chain_deeds_begin _ (first_word x)
 first_word _ = refl

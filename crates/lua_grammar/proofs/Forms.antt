@@ -33,7 +33,8 @@ use Rattle.lua_grammar.specs.Things as thing
 use Rattle.lua_grammar.specs.Things.{Thing}
 use Rattle.lua_grammar.specs.Parts.{suffixed, row, link_of, stat_of, branch_of, IsReturn}
 use Rattle.lua_grammar.specs.Grammar.{Spelled}
-use Rattle.lua_grammar.proofs.FirstWords.{begins_last}
+use Rattle.lua_grammar.specs.Rows.{begins_last}
+use Rattle.lua_grammar.specs.Stuck.{fresh, counted}
 
 -- the one where the word is of this kind, the other where it is not
 abbrev pub IfIs : Option TokenKind → TokenKind → Type 0 → Type 0 → Type 0
@@ -41,17 +42,9 @@ IfIs w k A B = (w ≡ Some k → A) × (w ≢ Some k → B)
 
 -- ---- expressions
 
--- `i` with the counts of an expression of its own
-abbrev pub fresh : Position → Position
-fresh i = record i { operators = 0; suffixes = 0 }
-
 -- behind an operator, which is counted
 abbrev pub behind_operator : Position → Position
 behind_operator i = at.next (record i { operators = suc i.operators })
-
--- a suffix is counted
-abbrev pub counted : Position → Position
-counted i = record i { suffixes = suc i.suffixes }
 
 abbrev pub ExpressionForm : Rules → Context → Expr → Position → Position → Type 0
 ExpressionForm rules c e i z = (k : Position) × Spelled rules c (thing.operand 1 e) (fresh i) k × at.ResumesExpression i k z

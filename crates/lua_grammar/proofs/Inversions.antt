@@ -24,7 +24,9 @@ use Rattle.lua_grammar.specs.Things.{Thing}
 use Rattle.lua_grammar.specs.Parts.{stat_of}
 use Rattle.lua_grammar.specs.Grammar as by
 use Rattle.lua_grammar.specs.Grammar.{Spelled}
-use Rattle.lua_grammar.proofs.FirstWords.{first_word, begins_chain, begins_names, begins_table, begins_arguments, begins_expression, begins_statement, begins_last}
+use Rattle.lua_grammar.specs.Rows.{begins_chain, begins_arguments, begins_last}
+use Rattle.lua_grammar.specs.Stuck.{begins_deed}
+use Rattle.lua_grammar.proofs.FirstWords.{first_word, begins_names, begins_table, begins_expression}
 use Rattle.lua_grammar.proofs.Forms.{IfIs, PowerForm, ExponentForm, LinksForm, PrefixForm, SimpleForm, HeadForm, SuffixesForm, CallForm, SuffixForm, ArgumentsForm, FieldsRest, UnkeyedForm, ParametersForm, NamesForm, BlockForm, ReturnForm, LastDeedForm, ChainDeedForm, DeedForm, Form}
 
 -- ---- what is said of one position, at an equal one
@@ -64,7 +66,7 @@ pub table_word : (w : Option TokenKind) → begins_table w ≡ true → w ≡ So
 table_word (Some kind.LeftBrace) h = refl
 table_word w h = cc
 
-pub statements_go_on : (w : Option TokenKind) → begins_statement w ≡ true → ends_block w ≡ false
+pub statements_go_on : (w : Option TokenKind) → begins_deed w ≡ true → ends_block w ≡ false
 statements_go_on None h = cc
 statements_go_on (Some kind.End) h = cc
 statements_go_on (Some kind.Else) h = cc
@@ -72,7 +74,7 @@ statements_go_on (Some kind.ElseIf) h = cc
 statements_go_on (Some kind.Until) h = cc
 statements_go_on w h = refl
 
-pub statements_are_not_last : (w : Option TokenKind) → begins_statement w ≡ true → begins_last w ≡ false
+pub statements_are_not_last : (w : Option TokenKind) → begins_deed w ≡ true → begins_last w ≡ false
 statements_are_not_last (Some kind.Break) h = cc
 statements_are_not_last (Some kind.Return) h = cc
 statements_are_not_last w h = refl

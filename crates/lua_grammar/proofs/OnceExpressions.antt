@@ -21,7 +21,8 @@ use Rattle.lua_grammar.specs.Contexts as context
 use Rattle.lua_grammar.specs.Contexts.{Rules, Kept, HasRoom, IsShort}
 use Rattle.lua_grammar.specs.Things as thing
 use Rattle.lua_grammar.specs.Parts.{suffixed, row, link_of}
-use Rattle.lua_grammar.proofs.FirstWords.{begins_chain, begins_table, begins_arguments}
+use Rattle.lua_grammar.specs.Rows.{begins_chain, begins_arguments}
+use Rattle.lua_grammar.proofs.FirstWords.{begins_table}
 use Rattle.lua_grammar.proofs.Inversions.{moved, on_line, takes_at, unseen_at, table_word, form, power_at, exponent_at, links_at, simple_at, prefix_at, head_at, suffixes_at, suffix_at, call_at, arguments_at}
 use Rattle.lua_grammar.proofs.Unique.{Unique, resumed, onward, same_name_taken}
 

@@ -16,7 +16,8 @@ use Rattle.lua_grammar.specs.Contexts as context
 use Rattle.lua_grammar.specs.Contexts.{Rules, Kept, HasRoom, IsShort}
 use Rattle.lua_grammar.specs.Things as thing
 use Rattle.lua_grammar.specs.Parts.{stat_of, branch_of, IsReturn}
-use Rattle.lua_grammar.proofs.FirstWords.{begins_statement, begins_last}
+use Rattle.lua_grammar.specs.Rows.{begins_last}
+use Rattle.lua_grammar.specs.Stuck.{begins_deed}
 use Rattle.lua_grammar.proofs.Ends.{same_return}
 use Rattle.lua_grammar.proofs.Inversions.{moved, on_line, takes_at, unseen_at, ends_at, statements_go_on, statements_are_not_last, last_goes_on, form, block_at, last_deed_at, return_at, deed_at}
 use Rattle.lua_grammar.proofs.Unique.{Unique, onward, same_name_taken}
@@ -55,7 +56,7 @@ last_statement_once x e first stats' z s =
     (ap (λ (stat : Stat). stat ∷ []) same ∙ sym is, end)
 
 pub more_statements_once : {rules : Rules} {c : Context} {stat : Stat} {stats : List Stat} {i j k : Position}
-    → Unique rules c (thing.statement stat) i j → Unique rules c (thing.block stats) j k → begins_statement (at.kind i) ≡ true
+    → Unique rules c (thing.statement stat) i j → Unique rules c (thing.block stats) j k → begins_deed (at.kind i) ≡ true
     → Unique rules c (thing.block (stat ∷ stats)) i k
 more_statements_once x xs first stats' z s =
     let (stat', rest', k', is, x', xs') = block_at (statements_go_on _ first) (statements_are_not_last _ first) s in

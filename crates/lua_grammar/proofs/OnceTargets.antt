@@ -1,5 +1,5 @@
 -- An assignment or a call that begins somewhere has one tree and one end, if its parts have; and no text is both.
-use Rattle.std.proofs.Common.{◌≡◌, inl, inr, true, List, [], ◌∷◌, ◌++◌, sym, ap, ap₂, ◌∙◌}
+use Rattle.std.proofs.Common.{◌≡◌, inl, inr, true, List, [], ◌∷◌, ◌++◌, sym, ap, ap₂, ◌∙◌, refl}
 use Rattle.std.proofs.lemmas.List.{same_from_push}
 use Rattle.lua_lex.specs.declared.kinds.TokenKind.TheVariants as kind
 use Rattle.lua_grammar.specs.declared.context.Context.{Context}
@@ -19,28 +19,27 @@ use Rattle.lua_grammar.specs.Positions.{Position, Takes, TakesName, TakesText, S
 use Rattle.lua_grammar.specs.Contexts.{Rules}
 use Rattle.lua_grammar.specs.Things as thing
 use Rattle.lua_grammar.specs.Parts.{suffixed}
+use Rattle.lua_grammar.specs.Grammar as by
 use Rattle.lua_grammar.specs.Grammar.{Spelled}
-use Rattle.lua_grammar.proofs.FirstWords.{begins_chain}
+use Rattle.lua_grammar.specs.Rows.{begins_chain}
+use Rattle.lua_grammar.specs.Classes as class
+use Rattle.lua_grammar.specs.Classes.{Reads}
 use Rattle.lua_grammar.proofs.Forms.{ChainDeedForm, TargetForm}
 use Rattle.lua_grammar.proofs.Ends.{nothing_is_end, no_call, same_key, same_call, same_name}
 use Rattle.lua_grammar.proofs.Inversions.{moved, takes_at, unseen_at, form, chain_deed_at}
 use Rattle.lua_grammar.proofs.Unique.{Unique, onward}
 
-abbrev NotCall : List Suffix → Type 0
-NotCall all = (suffixes : List Suffix) (how : Call) → all ≡ suffixes ++ suffix_of.Call how ∷ [] → ⊥
+-- a target is a chain that is no call
+pub target_chain : {rules : Rules} {c : Context} {target : Target} {i z : Position} → Spelled rules c (thing.target target) i z
+    → Reads rules c (class.own_chain class.target) i z
+target_chain (by.name_target x) = ((_, [], ((λ e. (_, refl)), (λ (ss, how, e). nothing_is_end ss _ e))), x)
+target_chain (by.row_target ss x e) =
+    ((_, _, ((λ none. absurd (nothing_is_end ss _ (sym none ∙ e))), (λ (before, how, e'). no_call (same_from_push ss before _ _ (sym e ∙ e')).1))), x)
 
--- the chain with which a target begins, which is no call
-abbrev TargetChain : Rules → Context → Position → Type 0
-TargetChain rules c i = (head : Expr) × (all : List Suffix) × (z : Position) × Spelled rules c (thing.own_chain head all) i z × NotCall all
-
-target_chain : {rules : Rules} {c : Context} {target : Target} {i z : Position} → TargetForm rules c target i z → TargetChain rules c i
-target_chain (head, all, x, inl (n, h, e, is)) = (head, all, _, x, λ suffixes how f. nothing_is_end suffixes _ (sym e ∙ f))
-target_chain (head, all, x, inr (ss, k, e, is)) =
-    (head, all, _, x, λ suffixes how f. no_call (same_from_push ss suffixes _ _ (sym e ∙ f)).1)
-
-targets_chain : {rules : Rules} {c : Context} {targets : List Target} {i z : Position} → Spelled rules c (thing.targets targets) i z
-    → TargetChain rules c i
-targets_chain s = let (target, k, x, rest) = form s in target_chain (form x)
+pub targets_chain : {rules : Rules} {c : Context} {targets : List Target} {i z : Position} → Spelled rules c (thing.targets targets) i z
+    → (k : Position) × Reads rules c (class.own_chain class.target) i k
+targets_chain (by.one_target x n) = (_, target_chain x)
+targets_chain (by.more_targets x t xs) = (_, target_chain x)
 
 assigned : {rules : Rules} {c : Context} {targets : List Target} {es : List Expr} {i j k l z : Position} {deed : Deed}
     → Unique rules c (thing.targets targets) i j → Takes kind.Assign j k → Unique rules c (thing.list es) k l → ChainDeedForm rules c deed i z
@@ -55,9 +54,9 @@ called : {rules : Rules} {c : Context} {head : Expr} {all : List Suffix} {how : 
     → Unique rules c (thing.own_chain head all) i j → all ≡ suffixes ++ suffix_of.Call how ∷ [] → ChainDeedForm rules c deed i z
     → (deed_of.Call (suffixed head suffixes) how ≡ deed) × (j ≡ z)
 called {how = how} suffixes x e (inl (targets', es', k', l', is, x', t', y')) =
-    let (head', all', m, s, not_call) = targets_chain x' in
+    let (m, ((head', all', sought), s)) = targets_chain x' in
     let (same, rest, to) = x _ _ _ s in
-    absurd (not_call suffixes how (sym rest ∙ e))
+    absurd (sought.1 (suffixes, how, sym rest ∙ e))
 called suffixes x e (inr (head', all', suffixes', how', is, x', e')) =
     let (same, rest, end) = x _ _ _ x' in
     let (front, last) = same_from_push suffixes suffixes' _ _ (sym e ∙ rest ∙ e') in

@@ -5,6 +5,7 @@ use Rattle.lua_lex.specs.declared.kinds.TokenKind.{TokenKind}
 use Rattle.lua_lex.specs.declared.kinds.TokenKind.TheVariants as kind
 use Rattle.lua_lex.specs.declared.kinds.Token.{Token}
 use Rattle.lua_lex.specs.Pieces.{ArePieces, pieces_text}
+use Rattle.lua_lex.specs.Tokens.{HasTokens}
 use Rattle.lua_lex.specs.Values.{IsString, IsQuoted, IsLong, piece_byte, line_feeds, without_break}
 use Rattle.lua_lex.proofs.RowLemmas.{tokens_same}
 use Rattle.lua_lex.proofs.ValueLemmas.{HasValue, HasValue-only}
@@ -75,7 +76,7 @@ word_same text t texts w w' after after' is is' =
     let starts = is.start_is ∙ sym is'.start_is in
     (ap₂ (λ (k : TokenKind) (n : ℕ). word_of k n w.line w.start) kinds number ∙ ap₂ (word_of w'.kind w'.text) lines starts, same)
 
-words_same : {text : List ℕ} {tokens tokens' : List Token} {words words' : List Word} {texts texts' : List (List ℕ)}
+pub words_same : {text : List ℕ} {tokens tokens' : List Token} {words words' : List Word} {texts texts' : List (List ℕ)}
     → AreWords text tokens words texts → AreWords text tokens' words' texts' → tokens ≡ tokens' → (words ≡ words') × (texts ≡ texts')
 words_same no_words no_words e = (refl, refl)
 words_same no_words (more_words ws w) e = absurd (nothing_is_end _ _ e)
@@ -87,6 +88,11 @@ words_same {text} (more_words {tokens = tokens} {after = after} {t = t} {w = w} 
     let is_there = subst (λ (u : Token). IsWord text u texts' w after) ends (subst (λ (ts : List (List ℕ)). IsWord text t ts w after) texts is) in
     let (word, same) = word_same text t' texts' w w' after after' is_there is' in
     (ap₂ (λ (front : List Word) (last : Word). front ++ last ∷ []) words word, same)
+
+-- whichever list of its tokens they are read from
+pub same_words : {text : List ℕ} {tokens tokens' : List Token} {words words' : List Word} {texts texts' : List (List ℕ)}
+    → HasTokens text tokens → AreWords text tokens words texts → HasTokens text tokens' → AreWords text tokens' words' texts' → words ≡ words'
+same_words {text} {tokens} {tokens'} has are has' are' = (words_same are are' (tokens_same text tokens tokens' has has')).0
 
 pub one_tree_of_text : (text : List ℕ) (chunk chunk' : Chunk) → HasTree text chunk → HasTree text chunk' → chunk ≡ chunk'
 one_tree_of_text text chunk chunk' has has' =

@@ -7,3 +7,6 @@ pub mod Parts
 pub mod Grammar
 pub mod Trees
 pub mod Stops
+pub mod Classes
+pub mod Rows
+pub mod Stuck

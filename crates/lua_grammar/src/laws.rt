@@ -22,3 +22,9 @@ pub fn one_tree()
         → IsTree rules words block bodies → IsTree rules words block' bodies' → (block ≡ block') × (bodies ≡ bodies') }
     ensures of_text { (text : List ℕ) (chunk chunk' : Chunk) → HasTree text chunk → HasTree text chunk' → chunk ≡ chunk' }
 {}
+
+/// Words have one stop at most: one line and one kind of fault.
+pub fn one_stop()
+    ensures { (words : List Word) (last_line line line' : ℕ) (kind kind' : SyntaxKind)
+        → StopsAt words last_line line kind → StopsAt words last_line line' kind' → (line ≡ line') × (kind ≡ kind') }
+{}

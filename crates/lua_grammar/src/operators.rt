@@ -42,7 +42,6 @@ pub struct Operator {
 }
 
 /// The binary operator that a token of this kind is.
-
 pub fn binary_operator(kind: TokenKind) -> Option<Operator>
     ensures { result ≡ spec.binary_operator kind }
 {

@@ -1,8 +1,11 @@
+pub mod Faults
+pub mod Kept
+pub mod Functions
 pub mod KindLemmas
 pub mod Leads
+pub mod Passed
 pub mod LongStrings
 pub mod NumberLemmas
 pub mod Parted
-pub mod Progress
 pub mod Seen
 pub mod Strings

@@ -9,7 +9,7 @@ use Rattle.lua_lex.specs.declared.kinds.Token.{Token}
 use Rattle.lua_lex.specs.Tokens.{HasTokens}
 use Rattle.lua_grammar.specs.declared.words.Word.{Word}
 use Rattle.lua_grammar.specs.Trees as tree
-use Rattle.lua_grammar.specs.Trees.{AreWords, IsNumbered, IsWord, noted, number_of, spelling}
+use Rattle.lua_grammar.specs.Trees.{AreWords, IsNumbered, noted, number_of, spelling}
 use Rattle.lua_parse.specs.Numbers.{IsIn}
 use Rattle.lua_parse.proofs.Strings.{AreIn, tokens_in, tokens_few}
 

@@ -1,5 +1,5 @@
 -- Trees put together and taken apart.
-use Rattle.std.proofs.Common.{◌≡◌, List, [], ◌∷◌, ◌++◌, length, refl, sym, ap, ◌∙◌, subst}
+use Rattle.std.proofs.Common.{◌≡◌, ℕ, List, [], ◌∷◌, ◌++◌, length, refl, sym, ap, ◌∙◌, subst}
 use Rattle.lua_grammar.specs.declared.context.Context.{Context}
 use Rattle.std.proofs.lemmas.List.{same_from_push}
 use Rattle.lua_grammar.specs.declared.expressions.Expr.{Expr, out-Expr}
@@ -8,22 +8,27 @@ use Rattle.lua_grammar.specs.declared.expressions.Call.TheOpen.{Expr-F}
 use Rattle.lua_grammar.specs.declared.expressions.Expr.TheVariants.{rolls-Suffixed}
 use Rattle.lua_grammar.specs.declared.expressions.Expr.TheVariants as expr
 use Rattle.lua_grammar.specs.declared.expressions.Link.{Link}
+use Rattle.lua_grammar.specs.declared.statements.Target.{Target}
 use Rattle.lua_grammar.specs.declared.expressions.Suffix.{Suffix}
 use Rattle.lua_grammar.specs.declared.expressions.Key.{Key}
 use Rattle.lua_grammar.specs.declared.statements.Deed.TheVariants as deed_of
 use Rattle.lua_grammar.specs.declared.statements.Target.TheVariants as target_of
 use Rattle.lua_grammar.specs.Positions.{Position}
 use Rattle.lua_grammar.specs.Contexts.{every_rule}
+use Rattle.lua_grammar.specs.declared.kinds.SyntaxKind.TheVariants as fault
+use Rattle.lua_grammar.specs.Classes as class
+use Rattle.lua_grammar.specs.Stuck as stuck
+use Rattle.lua_grammar.specs.Stuck.{Stuck}
 use Rattle.lua_grammar.specs.Things as thing
 use Rattle.lua_grammar.specs.declared.expressions.Call.{Call}
 use Rattle.lua_grammar.specs.declared.expressions.Suffix.TheVariants as suffix_of
 use Rattle.lua_grammar.specs.Parts as part
-use Rattle.lua_grammar.specs.Parts.{IsReturn, IsCall}
+use Rattle.lua_grammar.specs.Parts.{IsReturn}
 use Rattle.lua_grammar.specs.Grammar as rule
 use Rattle.lua_grammar.specs.Grammar.{Spelled}
 use Rattle.lua_parse.specs.declared.trees.Front.{Front}
 use Rattle.lua_parse.specs.declared.trees.Front.TheVariants as front
-use Rattle.lua_parse.specs.Fronts.{FrontOf, IsFront}
+use Rattle.lua_parse.specs.Fronts.{IsFront}
 
 nothing_is_end : {A : Type 0} (xs : List A) (x : A) → [] ≡ xs ++ x ∷ [] → ⊥
 nothing_is_end [] x e = cc
@@ -56,19 +61,42 @@ pub row-some : (first : Expr) (links : List Link) → (links ≡ [] → ⊥) →
 row-some first [] some = absurd (some refl)
 row-some first (link ∷ links) some = refl
 
-pub front_spelled : {c : Context} {head : Expr} {all : List Suffix} {i j : Position} (found : Front) → FrontOf head all found
-    → Spelled every_rule c (thing.own_chain head all) i j → IsFront c found i j
-front_spelled {c} {head} {all} {i} {j} (front.Target (target_of.Name n)) is s =
-    let P : Expr → Type 0 = λ e. Spelled every_rule c (thing.own_chain e all) i j in
-    let Q : List Suffix → Type 0 = λ xs. Spelled every_rule c (thing.own_chain (expr.Name n) xs) i j in
-    rule.name_target (subst Q is.1 (subst P is.0 s))
-front_spelled {c} {head} {all} {i} {j} (front.Target (target_of.Row e k)) is s =
-    let P : Expr → Type 0 = λ x. Spelled every_rule c (thing.target (target_of.Row x k)) i j in
-    subst P (sym is.1) (rule.row_target is.0 s is.2)
-front_spelled {c} {head} {all} {i} {j} (front.Call e how) is s =
+-- ---- what was read at the front of a statement
+
+pub own : {c : Context} {spared : ℕ} {found : Front} {i j : Position} (f : IsFront c spared found i j)
+    → Spelled every_rule c (thing.own_chain f.head f.all) i j
+own f = rule.own_chain (record { begun = refl }) f.spelled f.resumes
+
+pub front_call : {c : Context} {spared : ℕ} (e : Expr) (how : Call) {i j : Position} → IsFront c spared (front.Call e how) i j
+    → Spelled every_rule c (thing.deed (deed_of.Call e how)) i j
+front_call {c} e how {i} {j} f =
     let P : Expr → Type 0 = λ x. Spelled every_rule c (thing.deed (deed_of.Call x how)) i j in
-    subst P (sym is.1) (rule.call_statement is.0 s is.2)
-front_spelled {c} {head} {all} {i} {j} front.Neither is s = is
+    subst P (sym f.is.1) (rule.call_statement f.is.0 (own f) f.is.2)
+
+pub front_target : {c : Context} {spared : ℕ} (target : Target) {i j : Position} → IsFront c spared (front.Target target) i j
+    → Spelled every_rule c (thing.target target) i j
+front_target {c} (target_of.Name n) {i} {j} f =
+    let P : Expr → Type 0 = λ e. Spelled every_rule c (thing.own_chain e f.all) i j in
+    let Q : List Suffix → Type 0 = λ xs. Spelled every_rule c (thing.own_chain (expr.Name n) xs) i j in
+    rule.name_target (subst Q f.is.1 (subst P f.is.0 (own f)))
+front_target {c} (target_of.Row e k) {i} {j} f =
+    let P : Expr → Type 0 = λ x. Spelled every_rule c (thing.target (target_of.Row x k)) i j in
+    subst P (sym f.is.1) (rule.row_target f.is.0 (own f) f.is.2)
+
+-- a parenthesis alone is no statement
+pub front_neither : {c : Context} {spared : ℕ} {i j : Position} → IsFront c spared front.Neither i j → Stuck fault.Unexpected c class.deed i j
+front_neither {c} {i = i} {j} f =
+    let P : List Suffix → Type 0 = λ xs. Spelled every_rule c (thing.own_chain f.head xs) i j in
+    stuck.alone (subst P f.is.0 (own f)) (λ name. f.is.1 name.0 name.1)
+
+-- neither it nor a call is assigned to
+pub no_front_target : {c : Context} {i j : Position} (found : Front) → IsFront c 1 found i j
+    → ((target : Target) → found ≡ front.Target target → ⊥) → Stuck fault.Unexpected c class.target i j
+no_front_target (front.Target target) f other = absurd (other target refl)
+no_front_target (front.Call e how) f other =
+    stuck.no_target f.spelled f.resumes (f.few refl) (λ sought. sought.1 (f.is.0, how, f.is.2))
+no_front_target front.Neither f other =
+    stuck.no_target f.spelled f.resumes (f.few refl) (λ sought. let name = sought.0 f.is.0 in f.is.1 name.0 name.1)
 
 -- a `return` of one value that is no call
 pub no_call : (value : Expr) (values : List Expr) → values ≡ value ∷ []

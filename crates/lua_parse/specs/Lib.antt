@@ -4,3 +4,5 @@ pub mod Nests
 pub mod Numbers
 pub mod Steps
 pub mod Views
+pub mod Refusals
+pub mod Stops

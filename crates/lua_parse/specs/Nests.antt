@@ -1,8 +1,11 @@
 -- What productions read, and a function value that reads those of the next level of nesting.
-use Rattle.std.specs.Prelude.{◌≡◌, ℕ, ◌+◌, ◌<◌, true, List, [], ◌∷◌, ◌++◌, Result, IfOk}
+use Rattle.std.specs.Prelude.{◌≡◌, ℕ, ◌+◌, ◌<◌, Bool, true, false, if◌then◌else◌, List, [], ◌∷◌, ◌++◌, Option, Result, MatchResult}
+use Rattle.lua_lex.specs.declared.kinds.TokenKind.{TokenKind}
+use Rattle.lua_lex.specs.declared.kinds.TokenKind.TheVariants as kind
 use Rattle.std.specs.declared.alloc.Global.{Global}
 use denote.Ref.{MutBor}
 use Rattle.lua_grammar.specs.declared.context.Context.{Context}
+use Rattle.lua_grammar.specs.declared.expressions.Expr.{Expr}
 use Rattle.lua_grammar.specs.declared.expressions.Suffix.{Suffix}
 use Rattle.lua_grammar.specs.declared.expressions.Name.{Name}
 use Rattle.lua_grammar.specs.declared.statements.Stat.{Stat}
@@ -13,17 +16,16 @@ use Rattle.lua_grammar.specs.Positions.{Position, CountsSuffix}
 use Rattle.lua_grammar.specs.Words.{ends_block}
 use Rattle.lua_grammar.specs.Contexts.{every_rule}
 use Rattle.lua_grammar.specs.Things as thing
-use Rattle.lua_grammar.specs.Things.{Thing}
 use Rattle.lua_grammar.specs.Grammar.{Spelled}
+use Rattle.lua_grammar.specs.Classes as class
+use Rattle.lua_grammar.specs.Classes.{Class, Sought, EndsInCall}
+use Rattle.lua_grammar.specs.Stuck.{HasCount, IsNearCall, begins_call, nests_suffix}
 use Rattle.lua_parse.specs.declared.grammar.Wanted.{Wanted}
 use Rattle.lua_parse.specs.declared.grammar.Wanted.TheVariants as wanted
 use Rattle.lua_parse.specs.declared.grammar.Found.{Found}
 use Rattle.lua_parse.specs.declared.grammar.Found.TheVariants as found
-use Rattle.lua_parse.specs.declared.stops.ParseStop.{ParseStop}
-
--- what was read is the thing that the words from `i` to `j` spell in this context
-abbrev pub Reads : {A : Type 0} → Context → (A → Thing) → Result A ParseStop → Position → Position → Type 0
-Reads c make result i j = IfOk result (λ x. Spelled every_rule c (make x) i j)
+use Rattle.lua_parse.specs.declared.stops.Refusal.{Refusal}
+use Rattle.lua_parse.specs.Refusals.{IsRefused, spares}
 
 abbrev pub IsFound : Wanted → Context → Found → Position → Position → Type 0
 IsFound wanted.Expression c (found.Expression e) i j = Spelled every_rule c (thing.expression e) i j
@@ -33,12 +35,54 @@ IsFound wanted.Operand c (found.Expression e) i j = Spelled every_rule c (thing.
 IsFound wanted.Block c (found.Block block) i j = Spelled every_rule c (thing.block block) i j
 IsFound _ _ _ _ _ = ⊥
 
+-- what is wanted, as a class
+abbrev pub class_of : Wanted → Class
+class_of wanted.Expression = class.expression
+class_of wanted.List = class.list
+class_of wanted.Fields = class.fields
+class_of wanted.Operand = class.operand 7
+class_of wanted.Block = class.block
+
+abbrev pub Finds : Wanted → Context → Result Found Refusal → Position → Position → Type 0
+Finds w c result i j = MatchResult result (λ f. IsFound w c f i j) (λ r. IsRefused r c (class_of w) i j)
+
+-- behind suffixes that end in a call as many are left as are spared
+abbrev pub IsSpared : ℕ → List Suffix → Position → Type 0
+IsSpared spared all j = spared ≡ 1 → EndsInCall all → j.suffixes < 1000
+
+pub record IsChain (c : Context) (spared : ℕ) (head : Expr) (all : List Suffix) (i j : Position) : Type 0 where
+  pub spelled : Spelled every_rule c (thing.chain head all) i j
+  pub few : IsSpared spared all j
+
+pub record AreSuffixes (c : Context) (spared : ℕ) (all : List Suffix) (i j : Position) : Type 0 where
+  pub spelled : Spelled every_rule c (thing.suffixes all) i j
+  pub few : IsSpared spared all j
+
 -- a suffix that is within the limit, and counted
-pub record IsCounted (c : Context) (suffix : Suffix) (i k : Position) : Type 0 where
+pub record IsCounted (c : Context) (spared : ℕ) (suffix : Suffix) (i k : Position) : Type 0 where
   pub counted : Position
-  pub short : i.suffixes < 1000
+  pub room : (sought : Sought) → spares sought ≡ spared → HasCount sought i
   pub counts : CountsSuffix i counted
   pub spelled : Spelled every_rule c (thing.suffix suffix) counted k
+  pub few : IsSpared spared (suffix ∷ []) k
+
+-- the first word of a suffix is on the line of the word before it where it has to be, and the suffix may nest
+pub record HasSuffixRoom (c : Context) (i : Position) : Type 0 where
+  pub near : IsNearCall i
+  pub level : nests_suffix (at.kind i) ≡ true → c.level < 60
+
+-- how many suffixes a suffix that begins with this word leaves to come: a call leaves those that are spared
+abbrev pub spared_behind : Option TokenKind → ℕ → ℕ
+spared_behind w spared = if begins_call w then spared else 0
+
+-- an operand that is no constant begins with this word
+abbrev pub begins_other : TokenKind → Bool
+begins_other kind.Name = true
+begins_other kind.LeftParen = true
+begins_other kind.LeftBrace = true
+begins_other kind.Function = true
+begins_other kind.Dots = true
+begins_other _ = false
 
 -- the last statement of a block, with the end of the block behind it
 pub record EndsBlock (c : Context) (last : Stat) (i j : Position) : Type 0 where
@@ -56,7 +100,7 @@ pub record IsMethod (c : Context) (line : ℕ) (name : Name) (path : List Name) 
 
 -- the function value reads what is wanted in each context that is a level deeper than this one
 pub record Nests (level : ℕ) (pre : Global → MutBor Position → Context → Wanted → Type 0)
-    (post : Global → MutBor Position → Context → Wanted → Result Found ParseStop → MutBor Position → Type 0) : Type 0 where
+    (post : Global → MutBor Position → Context → Wanted → Result Found Refusal → MutBor Position → Type 0) : Type 0 where
   pub callable : (alloc : Global) (old : MutBor Position) (c : Context) (w : Wanted) → level < 60 → c.level ≡ level + 1 → pre alloc old c w
-  pub reads : (alloc : Global) (old new : MutBor Position) (c : Context) (w : Wanted) (result : Result Found ParseStop) → post alloc old c w result new
-      → IfOk result (λ f. IsFound w c f old.now new.now)
+  pub reads : (alloc : Global) (old new : MutBor Position) (c : Context) (w : Wanted) (result : Result Found Refusal) → post alloc old c w result new
+      → Finds w c result old.now new.now

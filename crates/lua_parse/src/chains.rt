@@ -1,52 +1,59 @@
 //! Names and parentheses, and what goes on with them.
 
-ghost use Rattle.std.specs.Prelude.{◌≡◌, ◌≤◌, IfOk};
+ghost use Rattle.std.specs.Prelude.{◌≡◌, ◌<◌, ◌≤◌, true, MatchResult};
 ghost use Rattle.lua_lex.specs.declared.kinds.TokenKind.TheVariants as kind;
+ghost use Rattle.lua_grammar.specs.Contexts.{every_rule};
+ghost use Rattle.lua_grammar.specs.Grammar.{Spelled};
 ghost use Rattle.lua_grammar.specs.Positions as at;
+ghost use Rattle.lua_grammar.specs.Classes as class;
+ghost use Rattle.lua_grammar.specs.Classes.{Sought, EndsInCall};
+ghost use Rattle.lua_grammar.specs.Stuck.{IsNearCall, nests_suffix};
 ghost use Rattle.lua_grammar.specs.Things as thing;
-ghost use Rattle.lua_parse.specs.Nests.{IsCounted, Nests, Reads};
+ghost use Rattle.lua_grammar.specs.Words.{begins_suffix};
+ghost use Rattle.lua_parse.specs.Nests.{AreSuffixes, HasSuffixRoom, IsChain, IsCounted, Nests};
+ghost use Rattle.lua_parse.specs.Refusals.{IsRefused, Reads, spares};
 
 use crate::grammar::{Found, Grammar, Wanted};
-use crate::kinds::begins_call;
+use crate::kinds::spared_behind;
 use crate::reader::Reader;
-use crate::stops::ParseStop;
-use crate::trees::only;
+use crate::stops::Refusal;
+use crate::trees::{exact, only};
 use lua_grammar::{Call, Context, Expr, Key, Suffix, begins_suffix};
 use lua_lex::TokenKind;
 use sqlite_items::{Boxed, Items};
 use std::alloc::Global;
 
-impl<F: Fn(Global, &mut Reader<'_>, Context, Wanted) -> Result<Found, ParseStop>> Grammar<F> {
+impl<F: Fn(Global, &mut Reader<'_>, Context, Wanted) -> Result<Found, Refusal>> Grammar<F> {
     /// A name or a parenthesis, and all that goes on with it. A call leaves `spared` suffixes to come.
     pub fn chain(
         &self,
         reader: &mut Reader<'_>,
         spared: usize,
-    ) -> Result<(Expr, Items<Suffix>), ParseStop>
+    ) -> Result<(Expr, Items<Suffix>), Refusal>
         requires nests { Nests self.now.context.level (F.pre self.now.nested) (F.post self.now.nested) }
         requires spared { spared ≤ 1 }
-        ensures { Reads self.now.context (λ x. thing.chain x.0 x.1) result reader.old reader.new }
+        ensures { MatchResult result (λ x. IsChain self.now.context spared x.0 x.1 reader.old reader.new) (λ refusal. (sought : Sought) → spares sought ≡ spared → IsRefused refusal self.now.context (class.chain sought) reader.old reader.new) }
     {
         let head = self.head(reader)?;
         let suffixes = self.suffixes(reader, spared)?;
         Ok((head, suffixes))
     }
 
-    fn suffixes(&self, reader: &mut Reader<'_>, spared: usize) -> Result<Items<Suffix>, ParseStop>
+    fn suffixes(&self, reader: &mut Reader<'_>, spared: usize) -> Result<Items<Suffix>, Refusal>
         requires nests { Nests self.now.context.level (F.pre self.now.nested) (F.post self.now.nested) }
         requires spared { spared ≤ 1 }
-        ensures { Reads self.now.context thing.suffixes result reader.old reader.new }
+        ensures { MatchResult result (λ all. AreSuffixes self.now.context spared all reader.old reader.new) (λ refusal. (sought : Sought) → spares sought ≡ spared → IsRefused refusal self.now.context (class.suffixes sought) reader.old reader.new) }
     {
         let mut suffixes = Items::new(self.alloc);
         'more: while begins_suffix(reader.peek()) {
             suffixes.push(self.counted_suffix(reader, spared)?)?;
         }
-        Ok(suffixes)
+        Ok(exact(self.alloc, suffixes)?)
     }
 
-    fn head(&self, reader: &mut Reader<'_>) -> Result<Expr, ParseStop>
+    fn head(&self, reader: &mut Reader<'_>) -> Result<Expr, Refusal>
         requires nests { Nests self.now.context.level (F.pre self.now.nested) (F.post self.now.nested) }
-        ensures { Reads self.now.context thing.head result reader.old reader.new }
+        ensures { Reads self.now.context class.head thing.head result reader.old reader.new }
     {
         if reader.sees(TokenKind::LeftParen) {
             return self.parenthesis(reader);
@@ -55,9 +62,10 @@ impl<F: Fn(Global, &mut Reader<'_>, Context, Wanted) -> Result<Found, ParseStop>
     }
 
     /// ( exp )
-    fn parenthesis(&self, reader: &mut Reader<'_>) -> Result<Expr, ParseStop>
+    fn parenthesis(&self, reader: &mut Reader<'_>) -> Result<Expr, Refusal>
         requires nests { Nests self.now.context.level (F.pre self.now.nested) (F.post self.now.nested) }
-        ensures { Reads self.now.context thing.head result reader.old reader.new }
+        requires seen { at.Sees kind.LeftParen reader.old }
+        ensures { Reads self.now.context class.head thing.head result reader.old reader.new }
     {
         self.room(reader)?;
         reader.take(TokenKind::LeftParen)?;
@@ -66,24 +74,22 @@ impl<F: Fn(Global, &mut Reader<'_>, Context, Wanted) -> Result<Found, ParseStop>
         Ok(Expr::Paren(Boxed::new(self.alloc, inside)?))
     }
 
-    fn counted_suffix(&self, reader: &mut Reader<'_>, spared: usize) -> Result<Suffix, ParseStop>
+    fn counted_suffix(&self, reader: &mut Reader<'_>, spared: usize) -> Result<Suffix, Refusal>
         requires nests { Nests self.now.context.level (F.pre self.now.nested) (F.post self.now.nested) }
         requires spared { spared ≤ 1 }
-        ensures { IfOk result (λ suffix. IsCounted self.now.context suffix reader.old reader.new) }
+        requires begins { begins_suffix (at.kind reader.old) ≡ true }
+        ensures { MatchResult result (λ suffix. IsCounted self.now.context spared suffix reader.old reader.new) (λ refusal. (sought : Sought) → spares sought ≡ spared → IsRefused refusal self.now.context (class.suffixes sought) reader.old reader.new) }
     {
         self.suffix_room(reader)?;
-        let spared = if begins_call(reader.peek()) {
-            spared
-        } else {
-            0
-        };
-        reader.count_suffix(spared)?;
+        reader.count_suffix(spared_behind(reader.peek(), spared))?;
         let suffix = self.suffix(reader)?;
         Ok(suffix)
     }
 
     // What the first word of a suffix is refused for before the count of suffixes.
-    fn suffix_room(&self, reader: &Reader<'_>) -> Result<(), ParseStop> {
+    fn suffix_room(&self, reader: &Reader<'_>) -> Result<(), Refusal>
+        ensures { MatchResult result (λ _. HasSuffixRoom self.now.context reader.now) (λ refusal. (sought : Sought) → IsRefused refusal self.now.context (class.suffixes sought) reader.now reader.now) }
+    {
         match reader.peek() {
             Some(TokenKind::LeftParen) => {
                 reader.near()?;
@@ -94,9 +100,11 @@ impl<F: Fn(Global, &mut Reader<'_>, Context, Wanted) -> Result<Found, ParseStop>
         }
     }
 
-    fn suffix(&self, reader: &mut Reader<'_>) -> Result<Suffix, ParseStop>
+    fn suffix(&self, reader: &mut Reader<'_>) -> Result<Suffix, Refusal>
         requires nests { Nests self.now.context.level (F.pre self.now.nested) (F.post self.now.nested) }
-        ensures { Reads self.now.context thing.suffix result reader.old reader.new }
+        requires begins { begins_suffix (at.kind reader.old) ≡ true }
+        requires room { HasSuffixRoom self.now.context reader.old }
+        ensures { Reads self.now.context class.suffix thing.suffix result reader.old reader.new }
     {
         match reader.peek() {
             Some(TokenKind::Dot) => Ok(Suffix::Key(self.member(reader)?)),
@@ -107,19 +115,21 @@ impl<F: Fn(Global, &mut Reader<'_>, Context, Wanted) -> Result<Found, ParseStop>
     }
 
     /// . Name
-    fn member(&self, reader: &mut Reader<'_>) -> Result<Key, ParseStop>
-        ensures { Reads self.now.context (λ key. thing.suffix (Suffix.Key key)) result reader.old reader.new }
+    fn member(&self, reader: &mut Reader<'_>) -> Result<Key, Refusal>
+        requires { at.Sees kind.Dot reader.old }
+        ensures { Reads self.now.context class.suffix (λ key. thing.suffix (Suffix.Key key)) result reader.old reader.new }
     {
         reader.take(TokenKind::Dot)?;
         Ok(Key::Field(reader.take_name()?))
     }
 
     /// [ exp ]
-    fn index(&self, reader: &mut Reader<'_>) -> Result<Key, ParseStop>
+    fn index(&self, reader: &mut Reader<'_>) -> Result<Key, Refusal>
         requires nests { Nests self.now.context.level (F.pre self.now.nested) (F.post self.now.nested) }
-        ensures { Reads self.now.context (λ key. thing.suffix (Suffix.Key key)) result reader.old reader.new }
+        requires seen { at.Sees kind.LeftBracket reader.old }
+        requires room { self.now.context.level < 60 }
+        ensures { Reads self.now.context class.suffix (λ key. thing.suffix (Suffix.Key key)) result reader.old reader.new }
     {
-        self.room(reader)?;
         reader.take(TokenKind::LeftBracket)?;
         let index = self.inner_expression(reader)?;
         reader.take(TokenKind::RightBracket)?;
@@ -127,18 +137,19 @@ impl<F: Fn(Global, &mut Reader<'_>, Context, Wanted) -> Result<Found, ParseStop>
     }
 
     /// : Name args
-    fn method(&self, reader: &mut Reader<'_>) -> Result<Call, ParseStop>
+    fn method(&self, reader: &mut Reader<'_>) -> Result<Call, Refusal>
         requires nests { Nests self.now.context.level (F.pre self.now.nested) (F.post self.now.nested) }
-        ensures { Reads self.now.context (λ how. thing.suffix (Suffix.Call how)) result reader.old reader.new }
+        requires seen { at.Sees kind.Colon reader.old }
+        ensures { Reads self.now.context class.suffix (λ how. thing.suffix (Suffix.Call how)) result reader.old reader.new }
     {
         reader.take(TokenKind::Colon)?;
         let name = reader.take_name()?;
         Ok(Call::Method(name, self.arguments(reader)?))
     }
 
-    fn arguments(&self, reader: &mut Reader<'_>) -> Result<Items<Expr>, ParseStop>
+    fn arguments(&self, reader: &mut Reader<'_>) -> Result<Items<Expr>, Refusal>
         requires nests { Nests self.now.context.level (F.pre self.now.nested) (F.post self.now.nested) }
-        ensures { Reads self.now.context thing.arguments result reader.old reader.new }
+        ensures { Reads self.now.context class.arguments thing.arguments result reader.old reader.new }
     {
         match reader.peek() {
             Some(TokenKind::LeftParen) => self.listed_arguments(reader),
@@ -148,17 +159,18 @@ impl<F: Fn(Global, &mut Reader<'_>, Context, Wanted) -> Result<Found, ParseStop>
         }
     }
 
-    fn table_argument(&self, reader: &mut Reader<'_>) -> Result<Items<Expr>, ParseStop>
+    fn table_argument(&self, reader: &mut Reader<'_>) -> Result<Items<Expr>, Refusal>
         requires nests { Nests self.now.context.level (F.pre self.now.nested) (F.post self.now.nested) }
-        ensures { Reads self.now.context thing.arguments result reader.old reader.new }
+        requires seen { at.Sees kind.LeftBrace reader.old }
+        ensures { Reads self.now.context class.arguments thing.arguments result reader.old reader.new }
     {
         let fields = self.constructor(reader)?;
         Ok(only(self.alloc, Expr::Table(fields))?)
     }
 
-    fn text_argument(&self, reader: &mut Reader<'_>) -> Result<Items<Expr>, ParseStop>
+    fn text_argument(&self, reader: &mut Reader<'_>) -> Result<Items<Expr>, Refusal>
         requires { at.Sees kind.Text reader.old }
-        ensures { Reads self.now.context thing.arguments result reader.old reader.new }
+        ensures { Reads self.now.context class.arguments thing.arguments result reader.old reader.new }
     {
         let number = reader.name().text;
         reader.pass();
@@ -166,9 +178,10 @@ impl<F: Fn(Global, &mut Reader<'_>, Context, Wanted) -> Result<Found, ParseStop>
     }
 
     /// ( [exps] )
-    fn listed_arguments(&self, reader: &mut Reader<'_>) -> Result<Items<Expr>, ParseStop>
+    fn listed_arguments(&self, reader: &mut Reader<'_>) -> Result<Items<Expr>, Refusal>
         requires nests { Nests self.now.context.level (F.pre self.now.nested) (F.post self.now.nested) }
-        ensures { Reads self.now.context thing.arguments result reader.old reader.new }
+        requires seen { at.Sees kind.LeftParen reader.old }
+        ensures { Reads self.now.context class.arguments thing.arguments result reader.old reader.new }
     {
         reader.near()?;
         self.room(reader)?;

@@ -1,26 +1,31 @@
 //! Expressions, by precedence.
 
-ghost use Rattle.std.specs.Prelude.{◌≡◌, ◌≤◌, Some};
+ghost use Rattle.std.specs.Prelude.{◌≡◌, ◌≤◌, Some, true, false, MatchResult};
 ghost use Rattle.lua_lex.specs.declared.kinds.TokenKind.TheVariants as kind;
 ghost use Rattle.lua_grammar.specs.declared.context.Context.{Context};
 ghost use Rattle.lua_grammar.specs.Positions as at;
+ghost use Rattle.lua_grammar.specs.Classes as class;
 ghost use Rattle.lua_grammar.specs.Things as thing;
-ghost use Rattle.lua_parse.specs.Nests.{Nests, Reads};
+ghost use Rattle.lua_grammar.specs.Contexts.{every_rule};
+ghost use Rattle.lua_grammar.specs.Grammar.{Spelled};
+ghost use Rattle.lua_grammar.specs.Rows.{begins_chain};
+ghost use Rattle.lua_parse.specs.Nests.{Nests, begins_other};
+ghost use Rattle.lua_parse.specs.Refusals.{IsRefused, Reads};
 
 use crate::grammar::{Found, Grammar, Wanted};
 use crate::reader::Reader;
-use crate::stops::ParseStop;
-use crate::trees::{row, suffixed};
+use crate::stops::Refusal;
+use crate::trees::{exact, row, suffixed};
 use lua_grammar::{Context, Expr, Link, SyntaxKind, Unary};
 use lua_lex::TokenKind;
 use sqlite_items::{Boxed, Items};
 use std::alloc::Global;
 
-impl<F: Fn(Global, &mut Reader<'_>, Context, Wanted) -> Result<Found, ParseStop>> Grammar<F> {
+impl<F: Fn(Global, &mut Reader<'_>, Context, Wanted) -> Result<Found, Refusal>> Grammar<F> {
     /// exp: its operators and suffixes are counted by themselves.
-    pub fn expression(&self, reader: &mut Reader<'_>) -> Result<Expr, ParseStop>
+    pub fn expression(&self, reader: &mut Reader<'_>) -> Result<Expr, Refusal>
         requires nests { Nests self.now.context.level (F.pre self.now.nested) (F.post self.now.nested) }
-        ensures { Reads self.now.context thing.expression result reader.old reader.new }
+        ensures { Reads self.now.context class.expression thing.expression result reader.old reader.new }
     {
         let counts = reader.begin_expression();
         let expression = self.operand(reader, 1)?;
@@ -30,10 +35,10 @@ impl<F: Fn(Global, &mut Reader<'_>, Context, Wanted) -> Result<Found, ParseStop>
 
     /// Operands of the next rank, with operators of this rank between them.
     #[cycle(operand)]
-    fn operand(&self, reader: &mut Reader<'_>, rank: u8) -> Result<Expr, ParseStop>
+    fn operand(&self, reader: &mut Reader<'_>, rank: u8) -> Result<Expr, Refusal>
         requires nests { Nests self.now.context.level (F.pre self.now.nested) (F.post self.now.nested) }
         requires rank { rank ≤ 7 }
-        ensures { Reads self.now.context (thing.operand rank) result reader.old reader.new }
+        ensures { Reads self.now.context (class.operand rank) (thing.operand rank) result reader.old reader.new }
     {
         if rank >= 7 {
             return self.power(reader);
@@ -45,10 +50,10 @@ impl<F: Fn(Global, &mut Reader<'_>, Context, Wanted) -> Result<Found, ParseStop>
 
     /// The operators of this rank that come, each with the operand behind it.
     #[cycle(operand)]
-    fn links(&self, reader: &mut Reader<'_>, rank: u8) -> Result<Items<Link>, ParseStop>
+    fn links(&self, reader: &mut Reader<'_>, rank: u8) -> Result<Items<Link>, Refusal>
         requires nests { Nests self.now.context.level (F.pre self.now.nested) (F.post self.now.nested) }
         requires rank { rank ≤ 6 }
-        ensures { Reads self.now.context (thing.links rank) result reader.old reader.new }
+        ensures { Reads self.now.context (class.links rank) (thing.links rank) result reader.old reader.new }
     {
         let mut links = Items::new(self.alloc);
         'more: while let Some(by) = reader.joint(rank) {
@@ -58,13 +63,13 @@ impl<F: Fn(Global, &mut Reader<'_>, Context, Wanted) -> Result<Found, ParseStop>
                 operand: self.operand(reader, rank + 1)?,
             })?;
         }
-        Ok(links)
+        Ok(exact(self.alloc, links)?)
     }
 
     /// unop exp, or a row of `^`.
-    pub fn power(&self, reader: &mut Reader<'_>) -> Result<Expr, ParseStop>
+    pub fn power(&self, reader: &mut Reader<'_>) -> Result<Expr, Refusal>
         requires nests { Nests self.now.context.level (F.pre self.now.nested) (F.post self.now.nested) }
-        ensures { Reads self.now.context (thing.operand 7) result reader.old reader.new }
+        ensures { Reads self.now.context (class.operand 7) (thing.operand 7) result reader.old reader.new }
     {
         if let Some(by) = reader.sign() {
             return self.unary(reader, by);
@@ -75,9 +80,9 @@ impl<F: Fn(Global, &mut Reader<'_>, Context, Wanted) -> Result<Found, ParseStop>
     }
 
     /// Each `^` that comes, with the exponent behind it.
-    fn powers(&self, reader: &mut Reader<'_>) -> Result<Items<Link>, ParseStop>
+    fn powers(&self, reader: &mut Reader<'_>) -> Result<Items<Link>, Refusal>
         requires nests { Nests self.now.context.level (F.pre self.now.nested) (F.post self.now.nested) }
-        ensures { Reads self.now.context (thing.links 7) result reader.old reader.new }
+        ensures { Reads self.now.context (class.links 7) (thing.links 7) result reader.old reader.new }
     {
         let mut links = Items::new(self.alloc);
         'more: while let Some(by) = reader.joint(7) {
@@ -87,13 +92,13 @@ impl<F: Fn(Global, &mut Reader<'_>, Context, Wanted) -> Result<Found, ParseStop>
                 operand: self.exponent(reader)?,
             })?;
         }
-        Ok(links)
+        Ok(exact(self.alloc, links)?)
     }
 
     /// What stands behind `^`.
-    fn exponent(&self, reader: &mut Reader<'_>) -> Result<Expr, ParseStop>
+    fn exponent(&self, reader: &mut Reader<'_>) -> Result<Expr, Refusal>
         requires nests { Nests self.now.context.level (F.pre self.now.nested) (F.post self.now.nested) }
-        ensures { Reads self.now.context (thing.operand 8) result reader.old reader.new }
+        ensures { Reads self.now.context (class.operand 8) (thing.operand 8) result reader.old reader.new }
     {
         if let Some(by) = reader.sign() {
             return self.unary(reader, by);
@@ -103,11 +108,11 @@ impl<F: Fn(Global, &mut Reader<'_>, Context, Wanted) -> Result<Found, ParseStop>
     }
 
     /// unop exp: the operand is a level deeper.
-    fn unary(&self, reader: &mut Reader<'_>, by: Unary) -> Result<Expr, ParseStop>
+    fn unary(&self, reader: &mut Reader<'_>, by: Unary) -> Result<Expr, Refusal>
         requires nests { Nests self.now.context.level (F.pre self.now.nested) (F.post self.now.nested) }
         requires sign { at.sign reader.old ≡ Some by }
-        ensures operand { Reads self.now.context (thing.operand 7) result reader.old reader.new }
-        ensures exponent { Reads self.now.context (thing.operand 8) result reader.old reader.new }
+        ensures operand { Reads self.now.context (class.operand 7) (thing.operand 7) result reader.old reader.new }
+        ensures exponent { Reads self.now.context (class.operand 8) (thing.operand 8) result reader.old reader.new }
     {
         self.room(reader)?;
         reader.pass();
@@ -116,45 +121,56 @@ impl<F: Fn(Global, &mut Reader<'_>, Context, Wanted) -> Result<Found, ParseStop>
     }
 
     /// An operand without operators.
-    fn simple(&self, reader: &mut Reader<'_>) -> Result<Expr, ParseStop>
+    fn simple(&self, reader: &mut Reader<'_>) -> Result<Expr, Refusal>
         requires nests { Nests self.now.context.level (F.pre self.now.nested) (F.post self.now.nested) }
-        ensures { Reads self.now.context thing.simple result reader.old reader.new }
+        ensures { Reads self.now.context class.simple thing.simple result reader.old reader.new }
     {
-        match reader.peek() {
-            Some(TokenKind::Name | TokenKind::LeftParen) => self.prefix(reader),
-            Some(TokenKind::LeftBrace) => Ok(Expr::Table(self.constructor(reader)?)),
-            Some(TokenKind::Function) => self.function(reader),
-            Some(TokenKind::Dots) => self.varargs(reader),
-            Some(kind) => constant(reader, kind),
-            None => reader.unexpected(),
+        let Some(kind) = reader.peek() else {
+            return reader.unexpected();
+        };
+        match kind {
+            TokenKind::Name | TokenKind::LeftParen => self.prefix(reader),
+            TokenKind::LeftBrace => self.table(reader),
+            TokenKind::Function => self.function(reader),
+            TokenKind::Dots => self.varargs(reader),
+            _ => constant(reader, kind),
         }
     }
 
     /// A name or a parenthesis, with all that goes on with it.
-    fn prefix(&self, reader: &mut Reader<'_>) -> Result<Expr, ParseStop>
+    fn prefix(&self, reader: &mut Reader<'_>) -> Result<Expr, Refusal>
         requires nests { Nests self.now.context.level (F.pre self.now.nested) (F.post self.now.nested) }
-        ensures { Reads self.now.context thing.simple result reader.old reader.new }
+        requires begins { begins_chain (at.kind reader.old) ≡ true }
+        ensures { Reads self.now.context class.simple thing.simple result reader.old reader.new }
     {
         let (head, suffixes) = self.chain(reader, 0)?;
         Ok(suffixed(self.alloc, head, suffixes)?)
     }
 
-    fn varargs(&self, reader: &mut Reader<'_>) -> Result<Expr, ParseStop>
+    fn table(&self, reader: &mut Reader<'_>) -> Result<Expr, Refusal>
+        requires nests { Nests self.now.context.level (F.pre self.now.nested) (F.post self.now.nested) }
+        requires seen { at.Sees kind.LeftBrace reader.old }
+        ensures { Reads self.now.context class.simple thing.simple result reader.old reader.new }
+    {
+        Ok(Expr::Table(self.constructor(reader)?))
+    }
+
+    fn varargs(&self, reader: &mut Reader<'_>) -> Result<Expr, Refusal>
         requires { at.Sees kind.Dots reader.old }
-        ensures { Reads self.now.context thing.simple result reader.old reader.new }
+        ensures { Reads self.now.context class.simple thing.simple result reader.old reader.new }
     {
         if !self.context.varargs {
-            return Err(reader.stop(SyntaxKind::NoVararg));
+            return Err(Refusal::Syntax(SyntaxKind::NoVararg));
         }
         reader.pass();
         Ok(Expr::Varargs)
     }
 
     /// function body
-    fn function(&self, reader: &mut Reader<'_>) -> Result<Expr, ParseStop>
+    fn function(&self, reader: &mut Reader<'_>) -> Result<Expr, Refusal>
         requires nests { Nests self.now.context.level (F.pre self.now.nested) (F.post self.now.nested) }
         requires seen { at.Sees kind.Function reader.old }
-        ensures { Reads self.now.context thing.simple result reader.old reader.new }
+        ensures { Reads self.now.context class.simple thing.simple result reader.old reader.new }
     {
         self.room(reader)?;
         let line = reader.name().line;
@@ -165,9 +181,9 @@ impl<F: Fn(Global, &mut Reader<'_>, Context, Wanted) -> Result<Found, ParseStop>
 }
 
 // nil, false, true, a number or a string.
-fn constant(reader: &mut Reader<'_>, kind: TokenKind) -> Result<Expr, ParseStop>
+fn constant(reader: &mut Reader<'_>, kind: TokenKind) -> Result<Expr, Refusal>
     requires { at.kind reader.old ≡ Some kind }
-    ensures { (c : Context) → Reads c thing.simple result reader.old reader.new }
+    ensures { (c : Context) → MatchResult result (λ e. Spelled every_rule c (thing.simple e) reader.old reader.new) (λ refusal. begins_other kind ≡ false → IsRefused refusal c class.simple reader.old reader.new) }
 {
     let text = reader.name().text;
     match kind {

@@ -1,12 +1,16 @@
 //! The productions call those of the next level of nesting by a function value, so that each is proved by itself.
 
-ghost use Rattle.std.specs.Prelude.{◌≡◌, ◌+◌, ◌<◌, ◌≤◌, OnOk, IfOk};
+ghost use Rattle.std.specs.Prelude.{◌≡◌, ◌+◌, ◌<◌, ◌≤◌, MatchResult};
+ghost use Rattle.lua_grammar.specs.Classes as class;
 ghost use Rattle.lua_grammar.specs.Things as thing;
 ghost use Rattle.lua_grammar.specs.Contexts as context;
-ghost use Rattle.lua_parse.specs.Nests.{IsFound, Nests, Reads};
+ghost use Rattle.lua_grammar.specs.declared.kinds.SyntaxKind.TheVariants as fault;
+ghost use Rattle.lua_parse.specs.Nests.{Finds, Nests};
+ghost use Rattle.lua_parse.specs.Refusals.{Reads};
 
 use crate::reader::Reader;
-use crate::stops::ParseStop;
+use crate::stops::Refusal;
+use crate::trees::exact;
 use lua_grammar::{Block, Context, Expr, Field, SyntaxKind};
 use sqlite_items::Items;
 use std::alloc::Global;
@@ -45,9 +49,9 @@ pub fn read(
     reader: &mut Reader<'_>,
     context: Context,
     wanted: Wanted,
-) -> Result<Found, ParseStop>
+) -> Result<Found, Refusal>
     requires { context.level ≤ 60 }
-    ensures { IfOk result (λ found. IsFound wanted context found reader.old reader.new) }
+    ensures { Finds wanted context result reader.old reader.new }
 {
     let grammar = Grammar {
         alloc,
@@ -63,21 +67,21 @@ pub fn read(
     }
 }
 
-impl<F: Fn(Global, &mut Reader<'_>, Context, Wanted) -> Result<Found, ParseStop>> Grammar<F> {
+impl<F: Fn(Global, &mut Reader<'_>, Context, Wanted) -> Result<Found, Refusal>> Grammar<F> {
     /// Refuses the next word where nothing may nest any deeper.
-    pub fn room(&self, reader: &Reader<'_>) -> Result<(), ParseStop>
-        ensures { OnOk result (self.now.context.level < 60) }
+    pub fn room(&self, reader: &Reader<'_>) -> Result<(), Refusal>
+        ensures { MatchResult result (λ _. self.now.context.level < 60) (λ refusal. (refusal ≡ Refusal.Syntax fault.TooDeep) × (60 ≤ self.now.context.level)) }
     {
         if self.context.level >= 60 {
-            return Err(reader.stop(SyntaxKind::TooDeep));
+            return Err(Refusal::Syntax(SyntaxKind::TooDeep));
         }
         Ok(())
     }
 
-    pub fn inner_expression(&self, reader: &mut Reader<'_>) -> Result<Expr, ParseStop>
+    pub fn inner_expression(&self, reader: &mut Reader<'_>) -> Result<Expr, Refusal>
         requires nests { Nests self.now.context.level (F.pre self.now.nested) (F.post self.now.nested) }
         requires room { self.now.context.level < 60 }
-        ensures { Reads (context.inner self.now.context) thing.expression result reader.old reader.new }
+        ensures { Reads (context.inner self.now.context) class.expression thing.expression result reader.old reader.new }
     {
         match (self.nested)(self.alloc, reader, self.context.inner(), Wanted::Expression)? {
             Found::Expression(expression) => Ok(expression),
@@ -85,10 +89,10 @@ impl<F: Fn(Global, &mut Reader<'_>, Context, Wanted) -> Result<Found, ParseStop>
         }
     }
 
-    pub fn inner_list(&self, reader: &mut Reader<'_>) -> Result<Items<Expr>, ParseStop>
+    pub fn inner_list(&self, reader: &mut Reader<'_>) -> Result<Items<Expr>, Refusal>
         requires nests { Nests self.now.context.level (F.pre self.now.nested) (F.post self.now.nested) }
         requires room { self.now.context.level < 60 }
-        ensures { Reads (context.inner self.now.context) thing.list result reader.old reader.new }
+        ensures { Reads (context.inner self.now.context) class.list thing.list result reader.old reader.new }
     {
         match (self.nested)(self.alloc, reader, self.context.inner(), Wanted::List)? {
             Found::List(list) => Ok(list),
@@ -96,10 +100,10 @@ impl<F: Fn(Global, &mut Reader<'_>, Context, Wanted) -> Result<Found, ParseStop>
         }
     }
 
-    pub fn inner_fields(&self, reader: &mut Reader<'_>) -> Result<Items<Field>, ParseStop>
+    pub fn inner_fields(&self, reader: &mut Reader<'_>) -> Result<Items<Field>, Refusal>
         requires nests { Nests self.now.context.level (F.pre self.now.nested) (F.post self.now.nested) }
         requires room { self.now.context.level < 60 }
-        ensures { Reads (context.inner self.now.context) thing.fields result reader.old reader.new }
+        ensures { Reads (context.inner self.now.context) class.fields thing.fields result reader.old reader.new }
     {
         match (self.nested)(self.alloc, reader, self.context.inner(), Wanted::Fields)? {
             Found::Fields(fields) => Ok(fields),
@@ -107,10 +111,10 @@ impl<F: Fn(Global, &mut Reader<'_>, Context, Wanted) -> Result<Found, ParseStop>
         }
     }
 
-    pub fn inner_operand(&self, reader: &mut Reader<'_>) -> Result<Expr, ParseStop>
+    pub fn inner_operand(&self, reader: &mut Reader<'_>) -> Result<Expr, Refusal>
         requires nests { Nests self.now.context.level (F.pre self.now.nested) (F.post self.now.nested) }
         requires room { self.now.context.level < 60 }
-        ensures { Reads (context.inner self.now.context) (thing.operand 7) result reader.old reader.new }
+        ensures { Reads (context.inner self.now.context) (class.operand 7) (thing.operand 7) result reader.old reader.new }
     {
         match (self.nested)(self.alloc, reader, self.context.inner(), Wanted::Operand)? {
             Found::Expression(expression) => Ok(expression),
@@ -119,14 +123,14 @@ impl<F: Fn(Global, &mut Reader<'_>, Context, Wanted) -> Result<Found, ParseStop>
     }
 
     /// The block in this context, which is a level deeper.
-    pub fn block_in(&self, reader: &mut Reader<'_>, context: Context) -> Result<Block, ParseStop>
+    pub fn block_in(&self, reader: &mut Reader<'_>, context: Context) -> Result<Block, Refusal>
         requires nests { Nests self.now.context.level (F.pre self.now.nested) (F.post self.now.nested) }
         requires room { self.now.context.level < 60 }
         requires level { context.level ≡ self.now.context.level + 1 }
-        ensures { Reads context thing.block result reader.old reader.new }
+        ensures { Reads context class.block thing.block result reader.old reader.new }
     {
         match (self.nested)(self.alloc, reader, context, Wanted::Block)? {
-            Found::Block(block) => Ok(block),
+            Found::Block(block) => Ok(exact(self.alloc, block)?),
             _ => unreachable!(),
         }
     }

@@ -2,11 +2,23 @@
 
 ghost use Rattle.std.specs.Prelude.{◌≡◌};
 ghost use Rattle.lua_grammar.specs.Positions as at;
+ghost use Rattle.lua_grammar.specs.Rows.{begins_last};
+ghost use Rattle.lua_grammar.specs.Stuck.{begins_call};
+ghost use Rattle.lua_parse.specs.Nests as spec;
 
 use lua_lex::TokenKind;
 
-/// Whether a suffix that begins with this word is a call.
-pub fn begins_call(kind: Option<TokenKind>) -> bool {
+/// How many suffixes a suffix that begins with this word leaves to come: a call leaves `spared`.
+pub fn spared_behind(kind: Option<TokenKind>, spared: usize) -> usize
+    ensures { result ≡ spec.spared_behind kind spared }
+{
+    if begins_call(kind) { spared } else { 0 }
+}
+
+// Whether a suffix that begins with this word is a call.
+fn begins_call(kind: Option<TokenKind>) -> bool
+    ensures { result ≡ begins_call kind }
+{
     match kind {
         Some(TokenKind::LeftParen | TokenKind::LeftBrace | TokenKind::Text | TokenKind::Colon) =>
             true,
@@ -35,7 +47,9 @@ pub fn is_named(first: Option<TokenKind>, second: Option<TokenKind>) -> bool
 }
 
 /// Whether the last statement of a block begins with this word.
-pub fn begins_last(kind: Option<TokenKind>) -> bool {
+pub fn begins_last(kind: Option<TokenKind>) -> bool
+    ensures { result ≡ begins_last kind }
+{
     match kind {
         Some(TokenKind::Break | TokenKind::Return) => true,
         _ => false,

@@ -6,6 +6,7 @@ mod chains;
 mod expressions;
 mod grammar;
 mod kinds;
+mod laws;
 mod lists;
 mod loops;
 mod numbering;
@@ -18,5 +19,6 @@ mod tables;
 mod tests;
 mod trees;
 
+pub use laws::one_answer;
 pub use parsing::parse;
 pub use stops::{ParseKind, ParseStop};

@@ -1,42 +1,45 @@
 //! Lists with commas between their items.
 
 ghost use Rattle.lua_grammar.specs.declared.context.Context.{Context};
+ghost use Rattle.lua_grammar.specs.Classes as class;
 ghost use Rattle.lua_grammar.specs.Things as thing;
-ghost use Rattle.lua_parse.specs.Nests.{Nests, Reads};
+ghost use Rattle.lua_parse.specs.Nests.{Nests};
+ghost use Rattle.lua_parse.specs.Refusals.{Reads};
 
 use crate::grammar::{Found, Grammar, Wanted};
 use crate::reader::Reader;
-use crate::stops::ParseStop;
+use crate::stops::Refusal;
+use crate::trees::exact;
 use lua_grammar::{Context, Expr, Name};
 use lua_lex::TokenKind;
 use sqlite_items::Items;
 use std::alloc::Global;
 
-impl<F: Fn(Global, &mut Reader<'_>, Context, Wanted) -> Result<Found, ParseStop>> Grammar<F> {
+impl<F: Fn(Global, &mut Reader<'_>, Context, Wanted) -> Result<Found, Refusal>> Grammar<F> {
     /// exp {, exp}
-    pub fn list(&self, reader: &mut Reader<'_>) -> Result<Items<Expr>, ParseStop>
+    pub fn list(&self, reader: &mut Reader<'_>) -> Result<Items<Expr>, Refusal>
         requires nests { Nests self.now.context.level (F.pre self.now.nested) (F.post self.now.nested) }
-        ensures { Reads self.now.context thing.list result reader.old reader.new }
+        ensures { Reads self.now.context class.list thing.list result reader.old reader.new }
     {
         let mut list = Items::new(self.alloc);
         'more: loop {
             list.push(self.expression(reader)?)?;
             if !reader.eat(TokenKind::Comma) {
-                return Ok(list);
+                return Ok(exact(self.alloc, list)?);
             }
         }
     }
 }
 
 /// Name {, Name}
-pub fn names(alloc: Global, reader: &mut Reader<'_>) -> Result<Items<Name>, ParseStop>
-    ensures { (c : Context) → Reads c thing.names result reader.old reader.new }
+pub fn names(alloc: Global, reader: &mut Reader<'_>) -> Result<Items<Name>, Refusal>
+    ensures { (c : Context) → Reads c class.names thing.names result reader.old reader.new }
 {
     let mut names = Items::new(alloc);
     'more: loop {
         names.push(reader.take_name()?)?;
         if !reader.eat(TokenKind::Comma) {
-            return Ok(names);
+            return Ok(exact(alloc, names)?);
         }
     }
 }

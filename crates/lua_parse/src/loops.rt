@@ -1,27 +1,33 @@
 //! Statements that hold blocks.
 
-ghost use Rattle.std.specs.Prelude.{◌≡◌, ◌<◌, List, ◌∷◌, IfOk};
+ghost use Rattle.std.specs.Prelude.{◌≡◌, ◌<◌, true, false, List, ◌∷◌, MatchResult};
+ghost use Rattle.lua_lex.specs.declared.kinds.TokenKind.TheVariants as kind;
 ghost use Rattle.lua_grammar.specs.declared.statements.Branch.{Branch};
 ghost use Rattle.lua_grammar.specs.Contexts.{every_rule};
+ghost use Rattle.lua_grammar.specs.Positions as at;
+ghost use Rattle.lua_grammar.specs.Classes as class;
 ghost use Rattle.lua_grammar.specs.Things as thing;
 ghost use Rattle.lua_grammar.specs.Grammar.{Spelled};
-ghost use Rattle.lua_parse.specs.Nests.{Nests, Reads};
+ghost use Rattle.lua_parse.specs.Nests.{Nests};
+ghost use Rattle.lua_parse.specs.Refusals.{IsRefused, Reads};
 
 use crate::grammar::{Found, Grammar, Wanted};
 use crate::kinds::is_named;
 use crate::lists::names;
 use crate::reader::Reader;
-use crate::stops::ParseStop;
+use crate::stops::Refusal;
+use crate::trees::exact;
 use lua_grammar::{Block, Branch, Context, Deed, Expr};
 use lua_lex::TokenKind;
 use sqlite_items::Items;
 use std::alloc::Global;
 
-impl<F: Fn(Global, &mut Reader<'_>, Context, Wanted) -> Result<Found, ParseStop>> Grammar<F> {
+impl<F: Fn(Global, &mut Reader<'_>, Context, Wanted) -> Result<Found, Refusal>> Grammar<F> {
     /// do block end
-    pub fn do_block(&self, reader: &mut Reader<'_>) -> Result<Deed, ParseStop>
+    pub fn do_block(&self, reader: &mut Reader<'_>) -> Result<Deed, Refusal>
         requires nests { Nests self.now.context.level (F.pre self.now.nested) (F.post self.now.nested) }
-        ensures { Reads self.now.context thing.deed result reader.old reader.new }
+        requires seen { at.Sees kind.Do reader.old }
+        ensures { Reads self.now.context class.deed thing.deed result reader.old reader.new }
     {
         self.room(reader)?;
         reader.take(TokenKind::Do)?;
@@ -31,9 +37,10 @@ impl<F: Fn(Global, &mut Reader<'_>, Context, Wanted) -> Result<Found, ParseStop>
     }
 
     /// while exp do block end
-    pub fn while_loop(&self, reader: &mut Reader<'_>) -> Result<Deed, ParseStop>
+    pub fn while_loop(&self, reader: &mut Reader<'_>) -> Result<Deed, Refusal>
         requires nests { Nests self.now.context.level (F.pre self.now.nested) (F.post self.now.nested) }
-        ensures { Reads self.now.context thing.deed result reader.old reader.new }
+        requires seen { at.Sees kind.While reader.old }
+        ensures { Reads self.now.context class.deed thing.deed result reader.old reader.new }
     {
         self.room(reader)?;
         reader.take(TokenKind::While)?;
@@ -42,9 +49,10 @@ impl<F: Fn(Global, &mut Reader<'_>, Context, Wanted) -> Result<Found, ParseStop>
     }
 
     /// repeat block until exp
-    pub fn repeat_loop(&self, reader: &mut Reader<'_>) -> Result<Deed, ParseStop>
+    pub fn repeat_loop(&self, reader: &mut Reader<'_>) -> Result<Deed, Refusal>
         requires nests { Nests self.now.context.level (F.pre self.now.nested) (F.post self.now.nested) }
-        ensures { Reads self.now.context thing.deed result reader.old reader.new }
+        requires seen { at.Sees kind.Repeat reader.old }
+        ensures { Reads self.now.context class.deed thing.deed result reader.old reader.new }
     {
         self.room(reader)?;
         reader.take(TokenKind::Repeat)?;
@@ -55,9 +63,10 @@ impl<F: Fn(Global, &mut Reader<'_>, Context, Wanted) -> Result<Found, ParseStop>
     }
 
     /// if branch {elseif branch} [else block] end
-    pub fn if_statement(&self, reader: &mut Reader<'_>) -> Result<Deed, ParseStop>
+    pub fn if_statement(&self, reader: &mut Reader<'_>) -> Result<Deed, Refusal>
         requires nests { Nests self.now.context.level (F.pre self.now.nested) (F.post self.now.nested) }
-        ensures { Reads self.now.context thing.deed result reader.old reader.new }
+        requires seen { at.Sees kind.If reader.old }
+        ensures { Reads self.now.context class.deed thing.deed result reader.old reader.new }
     {
         self.room(reader)?;
         reader.take(TokenKind::If)?;
@@ -65,14 +74,15 @@ impl<F: Fn(Global, &mut Reader<'_>, Context, Wanted) -> Result<Found, ParseStop>
         let branches = self.branches(reader, first)?;
         let otherwise = self.otherwise(reader)?;
         reader.take(TokenKind::End)?;
+        let branches = exact(self.alloc, branches)?;
         Ok(Deed::If(branches, otherwise))
     }
 
     // The first branch, and those of `elseif` behind it.
-    fn branches(&self, reader: &mut Reader<'_>, first: Branch) -> Result<Items<Branch>, ParseStop>
+    fn branches(&self, reader: &mut Reader<'_>, first: Branch) -> Result<Items<Branch>, Refusal>
         requires nests { Nests self.now.context.level (F.pre self.now.nested) (F.post self.now.nested) }
         requires room { self.now.context.level < 60 }
-        ensures { IfOk result (λ all. (more : List Branch) × (all ≡ first ∷ more) × Spelled every_rule self.now.context (thing.branches more) reader.old reader.new) }
+        ensures { MatchResult result (λ all. (more : List Branch) × (all ≡ first ∷ more) × Spelled every_rule self.now.context (thing.branches more) reader.old reader.new) (λ refusal. IsRefused refusal self.now.context class.branches reader.old reader.new) }
     {
         let mut branches = Items::new(self.alloc);
         branches.push(first)?;
@@ -83,10 +93,10 @@ impl<F: Fn(Global, &mut Reader<'_>, Context, Wanted) -> Result<Found, ParseStop>
     }
 
     /// exp then block
-    fn branch(&self, reader: &mut Reader<'_>) -> Result<Branch, ParseStop>
+    fn branch(&self, reader: &mut Reader<'_>) -> Result<Branch, Refusal>
         requires nests { Nests self.now.context.level (F.pre self.now.nested) (F.post self.now.nested) }
         requires room { self.now.context.level < 60 }
-        ensures { Reads self.now.context thing.branch result reader.old reader.new }
+        ensures { Reads self.now.context class.branch thing.branch result reader.old reader.new }
     {
         let test = self.expression(reader)?;
         reader.take(TokenKind::Then)?;
@@ -95,10 +105,10 @@ impl<F: Fn(Global, &mut Reader<'_>, Context, Wanted) -> Result<Found, ParseStop>
     }
 
     /// [else block]
-    fn otherwise(&self, reader: &mut Reader<'_>) -> Result<Block, ParseStop>
+    fn otherwise(&self, reader: &mut Reader<'_>) -> Result<Block, Refusal>
         requires nests { Nests self.now.context.level (F.pre self.now.nested) (F.post self.now.nested) }
         requires room { self.now.context.level < 60 }
-        ensures { Reads self.now.context thing.otherwise result reader.old reader.new }
+        ensures { Reads self.now.context class.otherwise thing.otherwise result reader.old reader.new }
     {
         if !reader.eat(TokenKind::Else) {
             return Ok(Items::new(self.alloc));
@@ -107,9 +117,10 @@ impl<F: Fn(Global, &mut Reader<'_>, Context, Wanted) -> Result<Found, ParseStop>
         Ok(block)
     }
 
-    pub fn for_loop(&self, reader: &mut Reader<'_>) -> Result<Deed, ParseStop>
+    pub fn for_loop(&self, reader: &mut Reader<'_>) -> Result<Deed, Refusal>
         requires nests { Nests self.now.context.level (F.pre self.now.nested) (F.post self.now.nested) }
-        ensures { Reads self.now.context thing.deed result reader.old reader.new }
+        requires seen { at.Sees kind.For reader.old }
+        ensures { Reads self.now.context class.deed thing.deed result reader.old reader.new }
     {
         self.room(reader)?;
         reader.take(TokenKind::For)?;
@@ -118,10 +129,10 @@ impl<F: Fn(Global, &mut Reader<'_>, Context, Wanted) -> Result<Found, ParseStop>
     }
 
     /// A `for` without its first word.
-    fn for_range(&self, reader: &mut Reader<'_>) -> Result<Deed, ParseStop>
+    fn for_range(&self, reader: &mut Reader<'_>) -> Result<Deed, Refusal>
         requires nests { Nests self.now.context.level (F.pre self.now.nested) (F.post self.now.nested) }
         requires room { self.now.context.level < 60 }
-        ensures { Reads self.now.context thing.for_range result reader.old reader.new }
+        ensures { Reads self.now.context class.for_range thing.for_range result reader.old reader.new }
     {
         if is_named(reader.peek(), reader.peek_behind()) {
             self.numeric_for(reader)
@@ -131,10 +142,11 @@ impl<F: Fn(Global, &mut Reader<'_>, Context, Wanted) -> Result<Found, ParseStop>
     }
 
     /// Name = exp , exp [, exp] do block end
-    fn numeric_for(&self, reader: &mut Reader<'_>) -> Result<Deed, ParseStop>
+    fn numeric_for(&self, reader: &mut Reader<'_>) -> Result<Deed, Refusal>
         requires nests { Nests self.now.context.level (F.pre self.now.nested) (F.post self.now.nested) }
         requires room { self.now.context.level < 60 }
-        ensures { Reads self.now.context thing.for_range result reader.old reader.new }
+        requires named { at.names_field reader.old ≡ true }
+        ensures { Reads self.now.context class.for_range thing.for_range result reader.old reader.new }
     {
         let name = reader.take_name()?;
         reader.take(TokenKind::Assign)?;
@@ -147,9 +159,9 @@ impl<F: Fn(Global, &mut Reader<'_>, Context, Wanted) -> Result<Found, ParseStop>
     }
 
     /// [, exp]
-    fn step(&self, reader: &mut Reader<'_>) -> Result<Option<Expr>, ParseStop>
+    fn step(&self, reader: &mut Reader<'_>) -> Result<Option<Expr>, Refusal>
         requires nests { Nests self.now.context.level (F.pre self.now.nested) (F.post self.now.nested) }
-        ensures { Reads self.now.context thing.step result reader.old reader.new }
+        ensures { Reads self.now.context class.step thing.step result reader.old reader.new }
     {
         if !reader.eat(TokenKind::Comma) {
             return Ok(None);
@@ -158,10 +170,11 @@ impl<F: Fn(Global, &mut Reader<'_>, Context, Wanted) -> Result<Found, ParseStop>
     }
 
     /// names in exps do block end
-    fn generic_for(&self, reader: &mut Reader<'_>) -> Result<Deed, ParseStop>
+    fn generic_for(&self, reader: &mut Reader<'_>) -> Result<Deed, Refusal>
         requires nests { Nests self.now.context.level (F.pre self.now.nested) (F.post self.now.nested) }
         requires room { self.now.context.level < 60 }
-        ensures { Reads self.now.context thing.for_range result reader.old reader.new }
+        requires unnamed { at.names_field reader.old ≡ false }
+        ensures { Reads self.now.context class.for_range thing.for_range result reader.old reader.new }
     {
         let names = names(self.alloc, reader)?;
         reader.take(TokenKind::In)?;
@@ -171,10 +184,10 @@ impl<F: Fn(Global, &mut Reader<'_>, Context, Wanted) -> Result<Found, ParseStop>
     }
 
     /// do block end, of a loop
-    fn loop_block(&self, reader: &mut Reader<'_>) -> Result<Block, ParseStop>
+    fn loop_block(&self, reader: &mut Reader<'_>) -> Result<Block, Refusal>
         requires nests { Nests self.now.context.level (F.pre self.now.nested) (F.post self.now.nested) }
         requires room { self.now.context.level < 60 }
-        ensures { Reads self.now.context thing.loop_block result reader.old reader.new }
+        ensures { Reads self.now.context class.loop_block thing.loop_block result reader.old reader.new }
     {
         reader.take(TokenKind::Do)?;
         let block = self.block_in(reader, self.context.looped())?;

@@ -1,11 +1,13 @@
 //! A cursor over the words of a text, with the counts of the expression at hand and the bodies of the functions so far.
 
-ghost use Rattle.std.specs.Prelude.{◌≡◌, ◌<◌, ◌^◌, ◌≤◌, ◌+◌, ◌↔◌, [], length, suc, true, false, IsTrue, Err, IfOk, OnOk, IfErr};
+ghost use Rattle.std.specs.Prelude.{◌≡◌, ◌<◌, ◌^◌, ◌≤◌, ◌+◌, ◌↔◌, [], length, suc, true, false, IsTrue, Err, IfOk, IfErr, OnOk, MatchResult};
+ghost use Rattle.lua_lex.specs.declared.kinds.TokenKind.TheVariants as mark;
 ghost use Rattle.lua_grammar.specs.Positions as at;
 ghost use Rattle.lua_grammar.specs.Trees.{start};
+ghost use Rattle.lua_grammar.specs.declared.kinds.SyntaxKind.TheVariants as fault;
 ghost use Rattle.lua_parse.specs.Steps as step;
 
-use crate::stops::{ParseKind, ParseStop};
+use crate::stops::Refusal;
 use lua_grammar::{Binary, Body, Name, SyntaxKind, Unary, Word, binary_operator, unary_operator};
 use lua_lex::TokenKind;
 use sqlite_items::Items;
@@ -18,9 +20,8 @@ const MOST: usize = 1_000;
 #[derive(Drop)]
 pub struct Reader<'a> {
     words: &'a [Word],
-    // The line of the word before, 0 at the front of the text; and that of the end of the text.
+    // The line of the word before, 0 at the front of the text.
     line: u32,
-    last_line: u32,
     operators: usize,
     suffixes: usize,
     bodies: Items<Body>,
@@ -49,14 +50,13 @@ pub struct Counts {
 }
 
 impl<'a> Reader<'a> {
-    pub fn new(alloc: Global, words: &'a [Word], last_line: u32) -> Reader<'a>
+    pub fn new(alloc: Global, words: &'a [Word]) -> Reader<'a>
         requires { length words.now < 2 ^ 31 }
         ensures { result ≡ start words.now }
     {
         Reader {
             words,
             line: 0,
-            last_line,
             operators: 0,
             suffixes: 0,
             bodies: Items::new(alloc),
@@ -83,7 +83,7 @@ impl<'a> Reader<'a> {
         }
     }
 
-    /// The next word as a name, or the name of a text.
+    /// The next word as a name: the number of its text, its line and its place; all 0 at the end of the text.
     pub fn name(&self) -> Name
         ensures { result ≡ at.name self.now }
     {
@@ -120,22 +120,20 @@ impl<'a> Reader<'a> {
         unary_operator(self.peek()?)
     }
 
-    /// The stop at the next word, or at the end of the text.
-    pub fn stop(&self, kind: SyntaxKind) -> ParseStop {
-        let line = match self.words {
-            [word, ..] => word.line,
-            [] => self.last_line,
-        };
-        ParseStop::Bad {
-            line,
-            kind: ParseKind::Syntax(kind),
+    /// The line of the next word; none at the end of the text.
+    pub fn next_line(&self) -> Option<u32>
+        ensures { result ≡ step.next_line self.now }
+    {
+        match self.words {
+            [word, ..] => Some(word.line),
+            [] => None,
         }
     }
 
-    pub fn unexpected<T>(&self) -> Result<T, ParseStop>
-        ensures { (stop : ParseStop) × (result ≡ Err stop) }
+    pub fn unexpected<T>(&self) -> Result<T, Refusal>
+        ensures { result ≡ Err (Refusal.Syntax fault.Unexpected) }
     {
-        Err(self.stop(SyntaxKind::Unexpected))
+        Err(Refusal::Syntax(SyntaxKind::Unexpected))
     }
 
     /// Whether the next word is of this kind.
@@ -157,9 +155,9 @@ impl<'a> Reader<'a> {
     }
 
     /// Goes behind the next word, which has to be of this kind.
-    pub fn take(&mut self, kind: TokenKind) -> Result<(), ParseStop>
+    pub fn take(&mut self, kind: TokenKind) -> Result<(), Refusal>
         requires { step.IsMark kind }
-        ensures { OnOk result (at.Takes kind self.old self.new) }
+        ensures { MatchResult result (λ _. at.Takes kind self.old self.new) (λ refusal. step.Lacks kind refusal self.old self.new) }
     {
         if !self.sees(kind) {
             return self.unexpected();
@@ -190,8 +188,8 @@ impl<'a> Reader<'a> {
         }
     }
 
-    pub fn take_name(&mut self) -> Result<Name, ParseStop>
-        ensures { IfOk result (λ name. at.TakesName name self.old self.new) }
+    pub fn take_name(&mut self) -> Result<Name, Refusal>
+        ensures { MatchResult result (λ name. at.TakesName name self.old self.new) (λ refusal. step.Lacks mark.Name refusal self.old self.new) }
     {
         let name = self.name();
         self.take(TokenKind::Name)?;
@@ -221,12 +219,13 @@ impl<'a> Reader<'a> {
     }
 
     /// Counts the binary operator that comes next, and goes behind it.
-    pub fn pass_operator(&mut self) -> Result<(), ParseStop>
+    pub fn pass_operator(&mut self) -> Result<(), Refusal>
         ensures short { OnOk result (self.old.operators < 1000) }
         ensures passed { OnOk result (self.new ≡ at.next (record self.old { operators = suc self.old.operators })) }
+        ensures long { IfErr result (λ refusal. step.IsTooLong refusal 0 self.old.operators self.old self.new) }
     {
         if self.operators >= MOST {
-            return Err(self.stop(SyntaxKind::TooLong));
+            return Err(Refusal::Syntax(SyntaxKind::TooLong));
         }
         self.operators += 1;
         self.pass();
@@ -234,32 +233,34 @@ impl<'a> Reader<'a> {
     }
 
     /// Counts the suffix that begins here; `spared` suffixes are left to come.
-    pub fn count_suffix(&mut self, spared: usize) -> Result<(), ParseStop>
+    pub fn count_suffix(&mut self, spared: usize) -> Result<(), Refusal>
         requires { spared ≤ 1 }
         ensures short { OnOk result (self.old.suffixes < 1000) }
         ensures counted { OnOk result (at.CountsSuffix self.old self.new) }
+        ensures spared { OnOk result (self.old.suffixes + spared < 1000) }
+        ensures long { IfErr result (λ refusal. step.IsTooLong refusal spared self.old.suffixes self.old self.new) }
     {
         if self.suffixes >= MOST || self.suffixes + spared >= MOST {
-            return Err(self.stop(SyntaxKind::TooLong));
+            return Err(Refusal::Syntax(SyntaxKind::TooLong));
         }
         self.suffixes += 1;
         Ok(())
     }
 
     /// Refuses a next word that is not on the line of the word before it.
-    pub fn near(&self) -> Result<(), ParseStop>
-        ensures { OnOk result (at.IsNear self.now) }
+    pub fn near(&self) -> Result<(), Refusal>
+        ensures { MatchResult result (λ _. at.IsNear self.now) (λ refusal. (refusal ≡ Refusal.Syntax fault.Ambiguous) × (at.IsNear self.now → ⊥)) }
     {
         if self.name().line != self.line {
-            return Err(self.stop(SyntaxKind::Ambiguous));
+            return Err(Refusal::Syntax(SyntaxKind::Ambiguous));
         }
         Ok(())
     }
 
     /// Keeps a place for the body of a function, whose parameters' `(` comes next, and goes behind that. Gives the number of
     /// the place.
-    pub fn begin_body(&mut self, alloc: Global) -> Result<u32, ParseStop>
-        ensures { IfOk result (λ number. step.OpensBody number self.old self.new) }
+    pub fn begin_body(&mut self, alloc: Global) -> Result<u32, Refusal>
+        ensures { MatchResult result (λ number. step.OpensBody number self.old self.new) (λ refusal. step.OpensNone refusal self.old self.new) }
     {
         let _words = self.words;
         self.take(TokenKind::LeftParen)?;
@@ -282,16 +283,11 @@ impl<'a> Reader<'a> {
         self.bodies.set(number as usize, body);
     }
 
-    /// The bodies, if no word is left.
-    pub fn finish(self) -> Result<Items<Body>, ParseStop>
-        ensures whole { OnOk result (self.entry.words ≡ []) }
-        ensures bodies { IfOk result (λ bodies. bodies ≡ self.entry.bodies) }
+    /// The bodies of the functions, in the order of their numbers.
+    pub fn into_bodies(self) -> Items<Body>
+        ensures { result ≡ self.entry.bodies }
     {
-        if !self.words.is_empty() {
-            let stop = self.stop(SyntaxKind::Unexpected);
-            return Err(stop);
-        }
         let Reader { bodies, .. } = self;
-        Ok(bodies)
+        bodies
     }
 }

@@ -1,22 +1,26 @@
 //! Blocks, and statements that hold none.
 
-ghost use Rattle.std.specs.Prelude.{◌≤◌, ◌<◌, IfOk};
+ghost use Rattle.std.specs.Prelude.{◌≡◌, ◌≤◌, ◌<◌, true, false, MatchResult};
 ghost use Rattle.lua_lex.specs.declared.kinds.TokenKind.TheVariants as kind;
 ghost use Rattle.lua_grammar.specs.declared.context.Context.{Context};
 ghost use Rattle.lua_grammar.specs.Contexts.{every_rule};
 ghost use Rattle.lua_grammar.specs.Positions as at;
 ghost use Rattle.lua_grammar.specs.Positions.{Position};
+ghost use Rattle.lua_grammar.specs.Classes as class;
 ghost use Rattle.lua_grammar.specs.Things as thing;
 ghost use Rattle.lua_grammar.specs.Grammar.{Spelled};
 ghost use Rattle.lua_parse.specs.Fronts.{IsFront};
-ghost use Rattle.lua_parse.specs.Nests.{EndsBlock, IsMethod, Nests, Reads};
+ghost use Rattle.lua_grammar.specs.Classes.{Sought};
+ghost use Rattle.lua_grammar.specs.Rows.{begins_chain, begins_last};
+ghost use Rattle.lua_parse.specs.Nests.{EndsBlock, IsMethod, Nests};
+ghost use Rattle.lua_parse.specs.Refusals.{IsMethodRefused, IsRefused, Reads, spares};
 
 use crate::grammar::{Found, Grammar, Wanted};
 use crate::kinds::begins_last;
 use crate::lists::names;
 use crate::reader::Reader;
-use crate::stops::ParseStop;
-use crate::trees::{Front, made_front, returned};
+use crate::stops::Refusal;
+use crate::trees::{Front, exact, made_front, returned};
 use lua_grammar::{
     Block, Context, Deed, Expr, Name, Stat, SyntaxKind, Target, ends_block, ends_return,
 };
@@ -24,11 +28,11 @@ use lua_lex::TokenKind;
 use sqlite_items::Items;
 use std::alloc::Global;
 
-impl<F: Fn(Global, &mut Reader<'_>, Context, Wanted) -> Result<Found, ParseStop>> Grammar<F> {
+impl<F: Fn(Global, &mut Reader<'_>, Context, Wanted) -> Result<Found, Refusal>> Grammar<F> {
     /// The statements up to the end of the block.
-    pub fn block(&self, reader: &mut Reader<'_>) -> Result<Block, ParseStop>
+    pub fn block(&self, reader: &mut Reader<'_>) -> Result<Block, Refusal>
         requires nests { Nests self.now.context.level (F.pre self.now.nested) (F.post self.now.nested) }
-        ensures { Reads self.now.context thing.block result reader.old reader.new }
+        ensures { Reads self.now.context class.block thing.block result reader.old reader.new }
     {
         let mut block = Items::new(self.alloc);
         'more: while !ends_block(reader.peek()) {
@@ -42,9 +46,9 @@ impl<F: Fn(Global, &mut Reader<'_>, Context, Wanted) -> Result<Found, ParseStop>
     }
 
     /// stat [;]
-    fn statement(&self, reader: &mut Reader<'_>) -> Result<Stat, ParseStop>
+    fn statement(&self, reader: &mut Reader<'_>) -> Result<Stat, Refusal>
         requires nests { Nests self.now.context.level (F.pre self.now.nested) (F.post self.now.nested) }
-        ensures { Reads self.now.context thing.statement result reader.old reader.new }
+        ensures { Reads self.now.context class.statement thing.statement result reader.old reader.new }
     {
         let line = reader.name().line;
         let deed = self.deed(reader)?;
@@ -53,9 +57,10 @@ impl<F: Fn(Global, &mut Reader<'_>, Context, Wanted) -> Result<Found, ParseStop>
     }
 
     /// last [;], with the end of the block behind it
-    fn last(&self, reader: &mut Reader<'_>) -> Result<Stat, ParseStop>
+    fn last(&self, reader: &mut Reader<'_>) -> Result<Stat, Refusal>
         requires nests { Nests self.now.context.level (F.pre self.now.nested) (F.post self.now.nested) }
-        ensures { IfOk result (λ last. EndsBlock self.now.context last reader.old reader.new) }
+        requires begins { begins_last (at.kind reader.old) ≡ true }
+        ensures { MatchResult result (λ last. EndsBlock self.now.context last reader.old reader.new) (λ refusal. IsRefused refusal self.now.context class.block reader.old reader.new) }
     {
         let line = reader.name().line;
         let deed = self.last_deed(reader)?;
@@ -66,9 +71,10 @@ impl<F: Fn(Global, &mut Reader<'_>, Context, Wanted) -> Result<Found, ParseStop>
         Ok(Stat { line, deed })
     }
 
-    fn last_deed(&self, reader: &mut Reader<'_>) -> Result<Deed, ParseStop>
+    fn last_deed(&self, reader: &mut Reader<'_>) -> Result<Deed, Refusal>
         requires nests { Nests self.now.context.level (F.pre self.now.nested) (F.post self.now.nested) }
-        ensures { Reads self.now.context thing.last_deed result reader.old reader.new }
+        requires begins { begins_last (at.kind reader.old) ≡ true }
+        ensures { Reads self.now.context class.last_deed thing.last_deed result reader.old reader.new }
     {
         if reader.sees(TokenKind::Break) {
             return self.break_statement(reader);
@@ -81,19 +87,20 @@ impl<F: Fn(Global, &mut Reader<'_>, Context, Wanted) -> Result<Found, ParseStop>
         Ok(returned(self.alloc, values)?)
     }
 
-    fn break_statement(&self, reader: &mut Reader<'_>) -> Result<Deed, ParseStop>
-        ensures { Reads self.now.context thing.last_deed result reader.old reader.new }
+    fn break_statement(&self, reader: &mut Reader<'_>) -> Result<Deed, Refusal>
+        requires seen { at.Sees kind.Break reader.old }
+        ensures { Reads self.now.context class.last_deed thing.last_deed result reader.old reader.new }
     {
         if !self.context.in_loop {
-            return Err(reader.stop(SyntaxKind::NoLoop));
+            return Err(Refusal::Syntax(SyntaxKind::NoLoop));
         }
         reader.take(TokenKind::Break)?;
         Ok(Deed::Break)
     }
 
-    fn deed(&self, reader: &mut Reader<'_>) -> Result<Deed, ParseStop>
+    fn deed(&self, reader: &mut Reader<'_>) -> Result<Deed, Refusal>
         requires nests { Nests self.now.context.level (F.pre self.now.nested) (F.post self.now.nested) }
-        ensures { Reads self.now.context thing.deed result reader.old reader.new }
+        ensures { Reads self.now.context class.deed thing.deed result reader.old reader.new }
     {
         match reader.peek() {
             Some(TokenKind::Do) => self.do_block(reader),
@@ -109,9 +116,10 @@ impl<F: Fn(Global, &mut Reader<'_>, Context, Wanted) -> Result<Found, ParseStop>
     }
 
     /// function Name {. Name} [: Name] body
-    fn function_statement(&self, reader: &mut Reader<'_>) -> Result<Deed, ParseStop>
+    fn function_statement(&self, reader: &mut Reader<'_>) -> Result<Deed, Refusal>
         requires nests { Nests self.now.context.level (F.pre self.now.nested) (F.post self.now.nested) }
-        ensures { Reads self.now.context thing.deed result reader.old reader.new }
+        requires seen { at.Sees kind.Function reader.old }
+        ensures { Reads self.now.context class.deed thing.deed result reader.old reader.new }
     {
         self.room(reader)?;
         let line = reader.name().line;
@@ -133,19 +141,20 @@ impl<F: Fn(Global, &mut Reader<'_>, Context, Wanted) -> Result<Found, ParseStop>
         line: u32,
         name: Name,
         mut path: Items<Name>,
-    ) -> Result<Deed, ParseStop>
+    ) -> Result<Deed, Refusal>
         requires nests { Nests self.now.context.level (F.pre self.now.nested) (F.post self.now.nested) }
         requires room { self.now.context.level < 60 }
-        ensures { IfOk result (λ deed. IsMethod self.now.context line name path deed reader.old reader.new) }
+        ensures { MatchResult result (λ deed. IsMethod self.now.context line name path deed reader.old reader.new) (λ refusal. IsMethodRefused refusal self.now.context line reader.old reader.new) }
     {
         path.push(reader.take_name()?)?;
         let number = self.function_body(reader, line, true)?;
         Ok(Deed::Function(name, path, number))
     }
 
-    fn local(&self, reader: &mut Reader<'_>) -> Result<Deed, ParseStop>
+    fn local(&self, reader: &mut Reader<'_>) -> Result<Deed, Refusal>
         requires nests { Nests self.now.context.level (F.pre self.now.nested) (F.post self.now.nested) }
-        ensures { Reads self.now.context thing.deed result reader.old reader.new }
+        requires seen { at.Sees kind.Local reader.old }
+        ensures { Reads self.now.context class.deed thing.deed result reader.old reader.new }
     {
         reader.take(TokenKind::Local)?;
         if reader.sees(TokenKind::Function) {
@@ -157,9 +166,10 @@ impl<F: Fn(Global, &mut Reader<'_>, Context, Wanted) -> Result<Found, ParseStop>
     }
 
     /// function Name body, behind `local`
-    fn local_function(&self, reader: &mut Reader<'_>) -> Result<Deed, ParseStop>
+    fn local_function(&self, reader: &mut Reader<'_>) -> Result<Deed, Refusal>
         requires nests { Nests self.now.context.level (F.pre self.now.nested) (F.post self.now.nested) }
-        ensures { IfOk result (λ deed. (start : Position) → at.Takes kind.Local start reader.old → Spelled every_rule self.now.context (thing.deed deed) start reader.new) }
+        requires seen { at.Sees kind.Function reader.old }
+        ensures { (start : Position) → at.Takes kind.Local start reader.old → Reads self.now.context class.deed thing.deed result start reader.new }
     {
         self.room(reader)?;
         let line = reader.name().line;
@@ -170,9 +180,9 @@ impl<F: Fn(Global, &mut Reader<'_>, Context, Wanted) -> Result<Found, ParseStop>
     }
 
     /// [= exps]
-    fn values(&self, reader: &mut Reader<'_>) -> Result<Items<Expr>, ParseStop>
+    fn values(&self, reader: &mut Reader<'_>) -> Result<Items<Expr>, Refusal>
         requires nests { Nests self.now.context.level (F.pre self.now.nested) (F.post self.now.nested) }
-        ensures { Reads self.now.context thing.values result reader.old reader.new }
+        ensures { Reads self.now.context class.values thing.values result reader.old reader.new }
     {
         if !reader.eat(TokenKind::Assign) {
             return Ok(Items::new(self.alloc));
@@ -182,9 +192,10 @@ impl<F: Fn(Global, &mut Reader<'_>, Context, Wanted) -> Result<Found, ParseStop>
     }
 
     /// A call, or an assignment.
-    fn chain_statement(&self, reader: &mut Reader<'_>) -> Result<Deed, ParseStop>
+    fn chain_statement(&self, reader: &mut Reader<'_>) -> Result<Deed, Refusal>
         requires nests { Nests self.now.context.level (F.pre self.now.nested) (F.post self.now.nested) }
-        ensures { Reads self.now.context thing.deed result reader.old reader.new }
+        requires begins { begins_chain (at.kind reader.old) ≡ true }
+        ensures { Reads self.now.context class.deed thing.deed result reader.old reader.new }
     {
         match self.front(reader, 0)? {
             Front::Call(function, how) => Ok(Deed::Call(function, how)),
@@ -197,10 +208,10 @@ impl<F: Fn(Global, &mut Reader<'_>, Context, Wanted) -> Result<Found, ParseStop>
     }
 
     // A name or a parenthesis with its suffixes, as an expression of its own.
-    fn front(&self, reader: &mut Reader<'_>, spared: usize) -> Result<Front, ParseStop>
+    fn front(&self, reader: &mut Reader<'_>, spared: usize) -> Result<Front, Refusal>
         requires nests { Nests self.now.context.level (F.pre self.now.nested) (F.post self.now.nested) }
         requires spared { spared ≤ 1 }
-        ensures { IfOk result (λ front. IsFront self.now.context front reader.old reader.new) }
+        ensures { MatchResult result (λ front. IsFront self.now.context spared front reader.old reader.new) (λ refusal. (sought : Sought) → spares sought ≡ spared → IsRefused refusal self.now.context (class.own_chain sought) reader.old reader.new) }
     {
         let counts = reader.begin_expression();
         let (head, suffixes) = self.chain(reader, spared)?;
@@ -209,9 +220,9 @@ impl<F: Fn(Global, &mut Reader<'_>, Context, Wanted) -> Result<Found, ParseStop>
     }
 
     /// vars = exps, behind the first of them
-    fn assignment(&self, reader: &mut Reader<'_>, first: Target) -> Result<Deed, ParseStop>
+    fn assignment(&self, reader: &mut Reader<'_>, first: Target) -> Result<Deed, Refusal>
         requires nests { Nests self.now.context.level (F.pre self.now.nested) (F.post self.now.nested) }
-        ensures { IfOk result (λ deed. (start : Position) → Spelled every_rule self.now.context (thing.target first) start reader.old → Spelled every_rule self.now.context (thing.deed deed) start reader.new) }
+        ensures { (start : Position) → Spelled every_rule self.now.context (thing.target first) start reader.old → Reads self.now.context class.deed thing.deed result start reader.new }
     {
         let mut targets = Items::new(self.alloc);
         targets.push(first)?;
@@ -220,13 +231,14 @@ impl<F: Fn(Global, &mut Reader<'_>, Context, Wanted) -> Result<Found, ParseStop>
         }
         reader.take(TokenKind::Assign)?;
         let values = self.list(reader)?;
+        let targets = exact(self.alloc, targets)?;
         Ok(Deed::Assign(targets, values))
     }
 
     // A call among its suffixes has another suffix behind it.
-    fn target(&self, reader: &mut Reader<'_>) -> Result<Target, ParseStop>
+    fn target(&self, reader: &mut Reader<'_>) -> Result<Target, Refusal>
         requires nests { Nests self.now.context.level (F.pre self.now.nested) (F.post self.now.nested) }
-        ensures { Reads self.now.context thing.target result reader.old reader.new }
+        ensures { Reads self.now.context class.target thing.target result reader.old reader.new }
     {
         match self.front(reader, 1)? {
             Front::Target(target) => Ok(target),
@@ -236,8 +248,8 @@ impl<F: Fn(Global, &mut Reader<'_>, Context, Wanted) -> Result<Found, ParseStop>
 }
 
 // {. Name}
-fn path(alloc: Global, reader: &mut Reader<'_>) -> Result<Items<Name>, ParseStop>
-    ensures { (c : Context) → Reads c thing.path result reader.old reader.new }
+fn path(alloc: Global, reader: &mut Reader<'_>) -> Result<Items<Name>, Refusal>
+    ensures { (c : Context) → Reads c class.path thing.path result reader.old reader.new }
 {
     let mut path = Items::new(alloc);
     'more: while reader.eat(TokenKind::Dot) {

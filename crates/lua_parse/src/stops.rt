@@ -33,18 +33,12 @@ impl From<NoMemory> for ParseStop {
     }
 }
 
-impl From<AllocError> for ParseStop {
-    ghost use Rattle.std.specs.Prelude.{◌≡◌};
-    ghost use Rattle.lua_parse.specs.declared.stops.ParseStop.{ParseStop};
-
-    ghost from_gives = { λ _ stop. stop ≡ ParseStop.NoMemory };
-
-    fn from(_error: AllocError) -> ParseStop {
-        ParseStop::NoMemory
-    }
-}
-
 impl From<LexStop> for ParseStop {
+    ghost use Rattle.std.specs.Prelude.{◌≡◌};
+    ghost use Rattle.lua_parse.specs.Stops.{of_lexical};
+
+    ghost from_gives = { λ lexical stop. stop ≡ of_lexical lexical };
+
     fn from(stop: LexStop) -> ParseStop {
         match stop {
             LexStop::Bad { line, kind } => ParseStop::Bad {
@@ -53,5 +47,34 @@ impl From<LexStop> for ParseStop {
             },
             LexStop::NoMemory => ParseStop::NoMemory,
         }
+    }
+}
+
+/// Why a production was not read: the fault of the next word, or of the end of the text, or want of memory.
+#[derive(Clone, Copy)]
+pub enum Refusal {
+    Syntax(SyntaxKind),
+    NoMemory,
+}
+
+impl From<NoMemory> for Refusal {
+    ghost use Rattle.std.specs.Prelude.{◌≡◌};
+    ghost use Rattle.lua_parse.specs.declared.stops.Refusal.{Refusal};
+
+    ghost from_gives = { λ _ refusal. refusal ≡ Refusal.NoMemory };
+
+    fn from(_error: NoMemory) -> Refusal {
+        Refusal::NoMemory
+    }
+}
+
+impl From<AllocError> for Refusal {
+    ghost use Rattle.std.specs.Prelude.{◌≡◌};
+    ghost use Rattle.lua_parse.specs.declared.stops.Refusal.{Refusal};
+
+    ghost from_gives = { λ _ refusal. refusal ≡ Refusal.NoMemory };
+
+    fn from(_error: AllocError) -> Refusal {
+        Refusal::NoMemory
     }
 }

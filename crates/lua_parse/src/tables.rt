@@ -1,34 +1,41 @@
 //! Table constructors.
 
+ghost use Rattle.std.specs.Prelude.{◌≡◌, true};
+ghost use Rattle.lua_lex.specs.declared.kinds.TokenKind.TheVariants as kind;
+ghost use Rattle.lua_grammar.specs.Positions as at;
+ghost use Rattle.lua_grammar.specs.Classes as class;
 ghost use Rattle.lua_grammar.specs.Things as thing;
-ghost use Rattle.lua_parse.specs.Nests.{Nests, Reads};
+ghost use Rattle.lua_parse.specs.Nests.{Nests};
+ghost use Rattle.lua_parse.specs.Refusals.{Reads};
 
 use crate::grammar::{Found, Grammar, Wanted};
 use crate::kinds::{is_named, is_separator};
 use crate::reader::Reader;
-use crate::stops::ParseStop;
+use crate::stops::Refusal;
+use crate::trees::exact;
 use lua_grammar::{Context, Field};
 use lua_lex::TokenKind;
 use sqlite_items::Items;
 use std::alloc::Global;
 
-impl<F: Fn(Global, &mut Reader<'_>, Context, Wanted) -> Result<Found, ParseStop>> Grammar<F> {
+impl<F: Fn(Global, &mut Reader<'_>, Context, Wanted) -> Result<Found, Refusal>> Grammar<F> {
     /// { [field {sep field} [sep]] }
-    pub fn constructor(&self, reader: &mut Reader<'_>) -> Result<Items<Field>, ParseStop>
+    pub fn constructor(&self, reader: &mut Reader<'_>) -> Result<Items<Field>, Refusal>
         requires nests { Nests self.now.context.level (F.pre self.now.nested) (F.post self.now.nested) }
-        ensures { Reads self.now.context thing.constructor result reader.old reader.new }
+        requires seen { at.Sees kind.LeftBrace reader.old }
+        ensures { Reads self.now.context class.constructor thing.constructor result reader.old reader.new }
     {
         self.room(reader)?;
         reader.take(TokenKind::LeftBrace)?;
         let fields = self.inner_fields(reader)?;
         reader.take(TokenKind::RightBrace)?;
-        Ok(fields)
+        Ok(exact(self.alloc, fields)?)
     }
 
     /// The fields of a constructor, up to its `}`.
-    pub fn fields(&self, reader: &mut Reader<'_>) -> Result<Items<Field>, ParseStop>
+    pub fn fields(&self, reader: &mut Reader<'_>) -> Result<Items<Field>, Refusal>
         requires nests { Nests self.now.context.level (F.pre self.now.nested) (F.post self.now.nested) }
-        ensures { Reads self.now.context thing.fields result reader.old reader.new }
+        ensures { Reads self.now.context class.fields thing.fields result reader.old reader.new }
     {
         let mut fields = Items::new(self.alloc);
         'more: while !reader.sees(TokenKind::RightBrace) {
@@ -41,9 +48,9 @@ impl<F: Fn(Global, &mut Reader<'_>, Context, Wanted) -> Result<Found, ParseStop>
         Ok(fields)
     }
 
-    fn field(&self, reader: &mut Reader<'_>) -> Result<Field, ParseStop>
+    fn field(&self, reader: &mut Reader<'_>) -> Result<Field, Refusal>
         requires nests { Nests self.now.context.level (F.pre self.now.nested) (F.post self.now.nested) }
-        ensures { Reads self.now.context thing.field result reader.old reader.new }
+        ensures { Reads self.now.context class.field thing.field result reader.old reader.new }
     {
         if reader.sees(TokenKind::LeftBracket) {
             return self.keyed(reader);
@@ -55,9 +62,10 @@ impl<F: Fn(Global, &mut Reader<'_>, Context, Wanted) -> Result<Found, ParseStop>
     }
 
     /// [ exp ] = exp
-    fn keyed(&self, reader: &mut Reader<'_>) -> Result<Field, ParseStop>
+    fn keyed(&self, reader: &mut Reader<'_>) -> Result<Field, Refusal>
         requires nests { Nests self.now.context.level (F.pre self.now.nested) (F.post self.now.nested) }
-        ensures { Reads self.now.context thing.field result reader.old reader.new }
+        requires seen { at.Sees kind.LeftBracket reader.old }
+        ensures { Reads self.now.context class.field thing.field result reader.old reader.new }
     {
         reader.take(TokenKind::LeftBracket)?;
         let key = self.expression(reader)?;
@@ -67,9 +75,10 @@ impl<F: Fn(Global, &mut Reader<'_>, Context, Wanted) -> Result<Found, ParseStop>
     }
 
     /// Name = exp
-    fn named(&self, reader: &mut Reader<'_>) -> Result<Field, ParseStop>
+    fn named(&self, reader: &mut Reader<'_>) -> Result<Field, Refusal>
         requires nests { Nests self.now.context.level (F.pre self.now.nested) (F.post self.now.nested) }
-        ensures { Reads self.now.context thing.field result reader.old reader.new }
+        requires named { at.names_field reader.old ≡ true }
+        ensures { Reads self.now.context class.field thing.field result reader.old reader.new }
     {
         let name = reader.take_name()?;
         reader.take(TokenKind::Assign)?;

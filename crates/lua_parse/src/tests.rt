@@ -6,7 +6,7 @@ use rs_base::{Bytes, NoMemory};
 use spelling::spell_chunk;
 use std::alloc::Global;
 use std::test::Fail;
-use table::{LINES, OPERATORS, PREFIXES, STATEMENTS, STOPS};
+use table::{LINES, OPERATORS, PREFIXES, STATEMENTS, STOPS, STOPS_AT_WORDS};
 
 // The tree of a text, spelled, or its stop.
 fn answer(alloc: Global, text: &[u8]) -> Result<Bytes, NoMemory> {
@@ -60,6 +60,15 @@ fn stops_in_texts(rt: HostRuntime) -> Result<(), Fail> {
     Ok(())
 }
 
+#[test]
+fn stops_at_words(rt: HostRuntime) -> Result<(), Fail> {
+    assert_eq!(rt;
+        agreeing(rt.alloc(), &STOPS_AT_WORDS)?,
+        STOPS_AT_WORDS.len()
+    );
+    Ok(())
+}
+
 // `front`, as many of `open` as told, `inside`, as many of `close`, and `back`.
 fn nest(
     alloc: Global,
@@ -87,15 +96,20 @@ enum Outcome {
     TooDeep,
     TooLong,
     Unexpected,
+    // On the second line.
+    TooDeepBelow,
+    AmbiguousBelow,
 }
 
-// Its stop, on the first line; nothing for a tree.
+// Its stop, on the first line unless told otherwise; nothing for a tree.
 fn stop_text(outcome: Outcome) -> &'static [u8] {
     match outcome {
         Outcome::Tree => b"",
         Outcome::TooDeep => b"line 1: nesting too deep",
         Outcome::TooLong => b"line 1: expression too long",
         Outcome::Unexpected => b"line 1: unexpected token",
+        Outcome::TooDeepBelow => b"line 2: nesting too deep",
+        Outcome::AmbiguousBelow => b"line 2: ambiguous syntax (function call x new statement)",
     }
 }
 
@@ -109,7 +123,7 @@ type Repeated = (
     Outcome,
 );
 
-static REPEATED: [Repeated; 44] = [
+static REPEATED: [Repeated; 49] = [
     (b"return ", b"(", 60, b"1", b")", Outcome::Tree),
     (b"return ", b"(", 61, b"1", b")", Outcome::TooDeep),
     (b"return ", b"- ", 60, b"1", b"", Outcome::Tree),
@@ -131,7 +145,9 @@ static REPEATED: [Repeated; 44] = [
     (b"", b"do ", 60, b"f()", b" end", Outcome::TooDeep),
     (b"", b"do ", 60, b"a:m'x'", b" end", Outcome::Tree),
     (b"", b"do ", 60, b"a:m()", b" end", Outcome::TooDeep),
+    (b"", b"do ", 60, b"f\n()", b" end", Outcome::AmbiguousBelow),
     (b"", b"do ", 60, b"while", b"", Outcome::TooDeep),
+    (b"", b"do ", 60, b"\nwhile\n)", b"", Outcome::TooDeepBelow),
     (b"", b"do ", 60, b"if", b"", Outcome::TooDeep),
     (b"", b"do ", 60, b"for", b"", Outcome::TooDeep),
     (b"", b"do ", 60, b"repeat", b"", Outcome::TooDeep),
@@ -148,11 +164,14 @@ static REPEATED: [Repeated; 44] = [
     (b"return a", b".b", 1_001, b"", b"", Outcome::TooLong),
     (b"return a", b"()", 1_001, b"", b"", Outcome::TooLong),
     (b"a", b"()", 1_000, b"", b"", Outcome::Tree),
+    (b"b", b".c", 999, b"()", b"", Outcome::Tree),
+    (b"b", b".c", 1_000, b"(\n)", b"", Outcome::TooLong),
     (b"a", b".b", 1_000, b"=1", b"", Outcome::Tree),
     (b"a,b", b".b", 1_000, b"=1", b"", Outcome::Tree),
     (b"a,b", b"()", 999, b".b=1", b"", Outcome::Tree),
     (b"a,b", b"()", 1_000, b"", b"", Outcome::TooLong),
     (b"a,b", b".b", 999, b":", b"", Outcome::TooLong),
+    (b"a,b", b".b", 999, b"(\n)", b"", Outcome::TooLong),
     (b"a,b", b"()", 999, b"=1", b"", Outcome::Unexpected),
 ];
 

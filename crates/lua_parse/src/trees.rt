@@ -104,7 +104,26 @@ fn returned_chain(
 pub fn only(alloc: Global, expression: Expr) -> Result<Items<Expr>, AllocError>
     ensures { IfOk result (λ list. list ≡ expression ∷ []) }
 {
-    let mut list = Items::new(alloc);
+    let mut list = room_for(alloc, 1)?;
     list.push(expression)?;
     Ok(list)
+}
+
+/// The same items in a list of just their size: a tree has many short lists, and a list that grew has room to spare.
+pub fn exact<T: Drop>(alloc: Global, items: Items<T>) -> Result<Items<T>, AllocError>
+    ensures { IfOk result (λ exact. exact ≡ items) }
+{
+    if items.is_empty() {
+        return Ok(items);
+    }
+    let mut exact = room_for(alloc, items.len())?;
+    exact.append(items)?;
+    Ok(exact)
+}
+
+// No items, with room for so many.
+fn room_for<T: Drop>(alloc: Global, count: usize) -> Result<Items<T>, AllocError>
+    ensures { IfOk result (λ items. items ≡ []) }
+{
+    Ok(Items::from_vec(Vec::with_capacity(alloc, count)?))
 }

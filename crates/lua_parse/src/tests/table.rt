@@ -254,3 +254,78 @@ pub static STOPS: [(&[u8], &[u8]); 33] = [
     (b"goto = 1", b"goto = 1"),
     (b"if = 1", b"line 1: unexpected token"),
 ];
+
+/// Stops, many of them between other lines, so that the line tells the word.
+pub static STOPS_AT_WORDS: [(&[u8], &[u8]); 38] = [
+    (
+        b"return 9007199254740993",
+        b"line 1: number is not whole or beyond 53 bits",
+    ),
+    (
+        b"return -9007199254740992, 9007199254740992\n+ 9007199254740993",
+        b"line 2: number is not whole or beyond 53 bits",
+    ),
+    (
+        b"f[[\n]](x)",
+        b"line 2: ambiguous syntax (function call x new statement)",
+    ),
+    (
+        b"a, f()\n(g)",
+        b"line 2: ambiguous syntax (function call x new statement)",
+    ),
+    (b"a, f()", b"line 1: unexpected token"),
+    (b"a, f()\n=\n1", b"line 2: unexpected token"),
+    (b"a, (b)\n=\n1", b"line 2: unexpected token"),
+    (b"x =\n\n", b"line 3: unexpected token"),
+    (b"x = }", b"line 1: unexpected token"),
+    (b"x = { [ )", b"line 1: unexpected token"),
+    (b"x = { [a\n=\n1]}", b"line 2: unexpected token"),
+    (b"for a, b = 1 do end", b"line 1: unexpected token"),
+    (b"for a, b\n=\n1 do end", b"line 2: unexpected token"),
+    (b"for a b", b"line 1: unexpected token"),
+    (b"for a = 1\ndo\nend", b"line 2: unexpected token"),
+    (b"function f:g.h() end", b"line 1: unexpected token"),
+    (b"function f:g\n.h\n() end", b"line 2: unexpected token"),
+    (b"function f x", b"line 1: unexpected token"),
+    (b"function f(a,\n)\nend", b"line 2: unexpected token"),
+    (b"local function f\n.a\n() end", b"line 2: unexpected token"),
+    (b"return 1 2", b"line 1: unexpected token"),
+    (
+        b"while true do\nreturn\nend end",
+        b"line 3: unexpected token",
+    ),
+    (
+        b"while true do\nbreak\na = 1 end",
+        b"line 3: unexpected token",
+    ),
+    (
+        b"if a then\nelse\nelseif b then end",
+        b"line 3: unexpected token",
+    ),
+    (b"local function f() break end", b"line 1: no loop to break"),
+    (
+        b"while a do f(function() break end) end",
+        b"line 1: no loop to break",
+    ),
+    (
+        b"while a do f(function()\nbreak\nend) end",
+        b"line 2: no loop to break",
+    ),
+    (
+        b"repeat local a until ...",
+        b"line 1: cannot use '...' outside a vararg function",
+    ),
+    (
+        b"function f(...) return function()\nreturn\n...\nend end",
+        b"line 3: cannot use '...' outside a vararg function",
+    ),
+    (b"f(a,)", b"line 1: unexpected token"),
+    (b"f(a,\n)\n= 1", b"line 2: unexpected token"),
+    (b"f{,}", b"line 1: unexpected token"),
+    (b"local a <", b"line 1: unexpected token"),
+    (b"goto = end", b"line 1: unexpected token"),
+    (b"goto =\nend\n", b"line 2: unexpected token"),
+    (b"a.b:c = 1", b"line 1: unexpected token"),
+    (b"a.b:c", b"line 1: unexpected token"),
+    (b"a.b:c\n=\n1", b"line 2: unexpected token"),
+];

@@ -1,14 +1,18 @@
 use Rattle.std.proofs.Common.{◌≡◌}
 use Rattle.lua_grammar.specs.Grammar as rule
 use Rattle.lua_parse.proofs.Leads.{no_parameter_yet, one_more_parameter, last_parameter, dots_behind}
-use Rattle.lua_parse.proofs.Progress.{takes, takes_name, eaten, eats_also}
+use Rattle.lua_grammar.proofs.Progress.{takes, takes_name, eaten, eats_also}
+use Rattle.std.proofs.lemmas.Result.{err_from_is_err_and}
+use Rattle.lua_lex.specs.declared.kinds.TokenKind.TheVariants as kind
+use Rattle.lua_parse.proofs.Passed.{unexpected}
+use Rattle.lua_parse.proofs.Seen.{sees_not}
 use Rattle.lua_parse.proofs.bodies.parameters.Goals as goal
 
 pub returns-then-sees : goal.returns-then-sees
 returns-then-sees c = λ context. rw c.new-names.ensures (rule.no_parameters (c.sees.ensures.0 (cc)))
 
 pub more-init : goal.more-init
-more-init c = rw c.new-names.ensures (λ context. no_parameter_yet)
+more-init c = rw c.new-names.ensures (λ context. no_parameter_yet (sees_not kind.RightParen c.args.reader.now c.sees.ensures (cc)))
 
 pub returns-then-eat : goal.returns-then-eat
 returns-then-eat c = λ context. dots_behind (c.more.invariant context) (c.eat.ensures.seen (cc))
@@ -28,3 +32,9 @@ pub more-smaller : goal.more-smaller
 more-smaller c =
     let none : c.eat.new.self ≡ c.more.reader = (c.eat.ensures.unseen (cc)).0 in
     (eats_also (takes_name (rw none at c.in_ok-take_name.ensures)) (eaten (takes (c.eat-in-more.ensures.seen (cc))))).words
+
+pub returns-in_err-take_name : goal.returns-in_err-take_name
+returns-in_err-take_name c = λ context. let p = err_from_is_err_and c.from_residual.result c.from_residual.ensures.1 in
+    rw (p.1, p.2) (let none : c.eat.new.self ≡ c.more.reader = (c.eat.ensures.unseen (cc)).0 in
+    unexpected kind.Name _ _ (λ no. (c.more.invariant context).lacking (c.eat.ensures.unseen (cc)).1 no)
+    (rw none at c.in_err-take_name.ensures))

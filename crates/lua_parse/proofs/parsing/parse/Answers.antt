@@ -1,5 +1,8 @@
-use Rattle.std.proofs.Common.{arith}
+use Rattle.std.proofs.Common.{◌+◌, ap, ◌∙◌, arith}
+use Rattle.std.specs.Prelude.{unwrap_or}
+use Rattle.lua_lex.specs.Lines.{breaks}
 use Rattle.lua_parse.proofs.NumberLemmas.{words_fit}
+use Rattle.lua_parse.proofs.Faults.{fault_at}
 use Rattle.lua_parse.proofs.parsing.parse.Goals as goal
 
 pub new-reader-requires : goal.new-reader-requires
@@ -8,14 +11,9 @@ new-reader-requires c =
     let few = words_fit are c.in_ok-tokens.ensures.found in
     rw c.as_slice-2.ensures.value (omega (arith, few, c.requires))
 
-pub returns : goal.returns
-returns c =
+pub returns-in-Err-Syntax : goal.returns-in-Err-Syntax
+returns-in-Err-Syntax c =
     let are = rw c.as_slice.ensures at c.in_ok-words.ensures in
-    let from = rw (c.new-reader.ensures, c.as_slice-2.ensures.value) at c.in_ok-block.ensures in
-    record {
-      tokens = c.in_ok-tokens.tokens;
-      words = c.in_ok-words.words.items;
-      has_tokens = c.in_ok-tokens.ensures.found;
-      are_words = rw c.in_ok-texts.ensures are;
-      is_tree = record { end = c.main_block.new.reader; spelled = from; whole = c.in_ok-bodies.ensures.whole; bodies_are = c.in_ok-bodies.ensures.bodies };
-    }
+    let from = rw (c.new-reader.ensures, c.as_slice-2.ensures.value) at c.in-Err-Syntax.ensures in
+    let halts = rw c.in-Err-Syntax.field-0-is at from in
+    rw c.in-Err-Syntax.field-0-is (fault_at _ _ _ _ _ _ _ c.in_ok-tokens.ensures.found are halts (c.unwrap_or.ensures ∙ ap (λ n. unwrap_or c.next_line.result n) c.last_line.ensures ∙ ap (λ o. unwrap_or o (1 + breaks c.args.text.now)) c.next_line.ensures))

@@ -1,11 +1,12 @@
 use Rattle.std.proofs.Common.{length}
 use Rattle.lua_grammar.specs.declared.expressions.Field.{Field}
+use Rattle.lua_grammar.specs.Classes as class
 use Rattle.lua_grammar.specs.Things as thing
 use Rattle.lua_parse.proofs.Leads.{Leads}
 use Rattle.lua_parse.proofs.grammar.Grammar.fields.Given as goal
 
 abbrev pub invariant-more : goal.invariant-more
-invariant-more g l = Leads Field thing.fields l.self.context l.fields l.fn.reader l.reader
+invariant-more g l = Leads Field thing.fields class.fields l.self.context l.fields l.fn.reader l.reader
 
 abbrev pub decreases-more : goal.decreases-more
 decreases-more g l = length l.reader.words

@@ -1,5 +1,20 @@
 use Rattle.lua_grammar.specs.Grammar as rule
+use Rattle.std.proofs.lemmas.Result.{err_from_is_err_and}
+use Rattle.std.proofs.Common.{ap}
+use Rattle.lua_grammar.specs.Rows as row
+use Rattle.lua_grammar.specs.Stuck as stuck
+use Rattle.lua_parse.proofs.Passed.{passed, faulty}
 use Rattle.lua_parse.proofs.grammar.Grammar.for_loop.Goals as goal
 
 pub returns : goal.returns
 returns g c = rule.for_loop c.in_ok-take.ensures c.in_ok-deed.ensures
+
+pub returns-in_err-room : goal.returns-in_err-room
+returns-in_err-room g c = let p = err_from_is_err_and c.from_residual.result c.from_residual.ensures.1 in
+    rw (p.1, p.2) (faulty _ _ _ _ _ _ c.in_err-room.ensures.0
+    (stuck.deed_level (ap stuck.nests_statement c.requires.seen) c.in_err-room.ensures.1))
+
+pub returns-in_err-deed : goal.returns-in_err-deed
+returns-in_err-deed g c = let p = err_from_is_err_and c.from_residual-in_err-deed.result c.from_residual-in_err-deed.ensures.1 in
+    rw (p.1, p.2) (passed _ _ (row.for_loop c.requires.seen c.in_ok-room.ensures) (row.more c.in_ok-take.ensures row.nothing)
+    c.in_err-deed.ensures)

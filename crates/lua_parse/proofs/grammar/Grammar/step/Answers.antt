@@ -1,4 +1,7 @@
 use Rattle.lua_grammar.specs.Grammar as rule
+use Rattle.std.proofs.lemmas.Result.{err_from_is_err_and}
+use Rattle.lua_grammar.specs.Rows as row
+use Rattle.lua_parse.proofs.Passed.{passed}
 use Rattle.lua_parse.proofs.grammar.Grammar.step.Goals as goal
 
 pub returns-then-not-eat : goal.returns-then-not-eat
@@ -6,3 +9,8 @@ returns-then-not-eat g c = let no = c.eat.ensures.unseen (cc) in rw no.0 (rule.n
 
 pub returns : goal.returns
 returns g c = rule.step (c.eat.ensures.seen (cc)) c.in_ok-expression.ensures
+
+pub returns-in_err-expression : goal.returns-in_err-expression
+returns-in_err-expression g c = let p = err_from_is_err_and c.from_residual.result c.from_residual.ensures.1 in
+    rw (p.1, p.2) (let t = c.eat.ensures.seen (cc) in
+    passed _ _ (row.step t.seen) (row.more t row.nothing) c.in_err-expression.ensures)
