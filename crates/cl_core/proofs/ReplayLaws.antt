@@ -5,6 +5,7 @@ use Rattle.std.specs.List.{AllByRecursion}
 use Rattle.std.specs.Option.{IsSomeAnd}
 use Rattle.std.proofs.lemmas.Grind.{flat_map-append}
 use Rattle.std.proofs.lemmas.List.Sums.{fold-append}
+use Rattle.rs_base.proofs.Lists.{each-append}
 use Rattle.ks_space.specs.Store.{Store, IsKey, deadline_at}
 use Rattle.ks_space.specs.Purge.{gone}
 use Rattle.fx_record.specs.declared.record.Record.{Record}
@@ -85,10 +86,6 @@ removals_are : (keys : List (List ℕ)) → AllByRecursion IsKey keys → AllByR
 removals_are [] h = tt
 removals_are (key ∷ keys) h = (record { some = omega arith; one = λ _. refl; each = (h.0, tt) }, removals_are keys h.1)
 
-all-append : (xs ys : List Group) → AllByRecursion IsGroup xs → AllByRecursion IsGroup ys → AllByRecursion IsGroup (xs ++ ys)
-all-append [] ys h k = k
-all-append (x ∷ xs) ys h k = (h.0, all-append xs ys h.1 k)
-
 module _ (listed : (store : Store) (time : ℕ) (key : List ℕ) → Contains (gone store time) key ↔ IsSomeAnd (deadline_at store key) (λ at. at < time))
     (begins : (world : World) (clock word : ℕ) → IsWorld world → IsWorld (begun world clock word))
     (moves : (world : World) (mode : Mode) (words : List (List ℕ)) → IsWorld world → IsWorld (moved_by world (exec world mode words)))
@@ -98,11 +95,11 @@ module _ (listed : (store : Store) (time : ℕ) (key : List ℕ) → Contains (g
   events_make (Began clock word ∷ events) run world made =
       let time = max run.state.time clock in
       events_make events (begun_at clock word run) (begins (world_of run.state) clock word world)
-      (all-append run.groups _ made (removals_are (gone run.state.store time) (gone_within listed run.state.store time world.0)))
+      (each-append IsGroup run.groups _ made (removals_are (gone run.state.store time) (gone_within listed run.state.store time world.0)))
   events_make (Asked client words ∷ events) run world made =
       let records = (exec (world_of run.state) Client words).records in
       events_make events (with_command client run words) (moves (world_of run.state) Client words world)
-      (all-append run.groups _ made (group_is records (records_fit run.state.time records (records_within (world_of run.state) Client words world))))
+      (each-append IsGroup run.groups _ made (group_is records (records_fit run.state.time records (records_within (world_of run.state) Client words world))))
   events_make (Told client answer ∷ events) run world made = events_make events (sending (reply_row client answer) run) world made
   events_make (Ended client ∷ events) run world made = events_make events (sending (Shut client) run) world made
 

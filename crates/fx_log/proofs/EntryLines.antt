@@ -18,7 +18,8 @@ use Rattle.fx_log.specs.Dump.{entry_line, line_at, dump}
 AreFound : List (List ℕ × Entry) → List (List ℕ × Entry) → Type 0
 AreFound es ys = AllByRecursion (λ e. find bytes_cmp e.0 es ≡ Some e.1) ys
 
-found_behind : (x : List ℕ × Entry) (es ys : List (List ℕ × Entry)) → AllByRecursion (λ y. bytes_cmp x.0 y ≡ Less) (map (λ e. e.0) ys) → AreFound es ys → AreFound (x ∷ es) ys
+found_behind : (x : List ℕ × Entry) (es ys : List (List ℕ × Entry))
+    → AllByRecursion (λ y. bytes_cmp x.0 y ≡ Less) (map (λ e. e.0) ys) → AreFound es ys → AreFound (x ∷ es) ys
 unfolding AreFound
 found_behind x es [] above all = tt
 found_behind x es (y ∷ ys) above all =
@@ -29,10 +30,13 @@ all_found : (es : List (List ℕ × Entry)) → IsStrictlySortedBy bytes_cmp (ma
 unfolding AreFound
 all_found [] h = tt
 all_found (x ∷ es) h =
-    let keys = map (λ (e : List ℕ × Entry). e.0) es in
-    (ap (λ r. cond (is_eq r) (Some x.1) (find bytes_cmp x.0 es)) (tied_itself bytes_total x.0), found_behind x es es (sorted_head bytes_cmp x.0 keys h) (all_found es (sorted_tail bytes_cmp x.0 keys h)))
+    let keys = map (λ (e : List ℕ × Entry). e.0) es in (
+      ap (λ r. cond (is_eq r) (Some x.1) (find bytes_cmp x.0 es)) (tied_itself bytes_total x.0),
+      found_behind x es es (sorted_head bytes_cmp x.0 keys h) (all_found es (sorted_tail bytes_cmp x.0 keys h)),
+    )
 
-lines : (store : Store) (es : List (List ℕ × Entry)) → AreFound (finite.entries store) es → flat_map (line_at store) (map (λ e. e.0) es) ≡ flat_map entry_line es
+lines : (store : Store) (es : List (List ℕ × Entry)) → AreFound (finite.entries store) es
+    → flat_map (line_at store) (map (λ e. e.0) es) ≡ flat_map entry_line es
 unfolding AreFound
 lines store [] h = refl
 lines store (e ∷ es) h =
@@ -40,4 +44,5 @@ lines store (e ∷ es) h =
     λ i. line i ++ lines store es h.1 i
 
 pub lines_by_key : (store : Store) → flat_map (line_at store) (finite.keys store) ≡ dump store
-lines_by_key store = lines store (finite.entries store) (all_found (finite.entries store) (keys_sorted (finite.entries store) (finite.entries_sorted store)))
+lines_by_key store = lines store (finite.entries store)
+    (all_found (finite.entries store) (keys_sorted (finite.entries store) (finite.entries_sorted store)))

@@ -1,9 +1,8 @@
 pub mod GoingOn
-pub mod Cases
-pub mod EntryLaws
+pub mod CommandLaws
 pub mod Runs
 pub mod Within
-pub mod RowTexts
+pub mod RankedMembers
 pub mod EntryLines
 pub mod Texts
 pub mod Feeding

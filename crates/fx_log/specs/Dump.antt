@@ -1,11 +1,11 @@
 -- The dump of a store, as text, and records applied one after another.
-use Rattle.std.specs.Prelude.{◌≡◌, ℕ, Option, Some, None, List, ◌∷◌, [], ◌++◌, decimal, codes}
+use Rattle.std.specs.Prelude.{◌≡◌, ℕ, ℤ, Option, Some, None, List, ◌∷◌, [], ◌++◌, decimal, codes}
 use Rattle.std.specs.List.{flat_map}
 use Rattle.std.specs.Option.{option_map_or}
 use Rattle.std.specs.FinMap as finite
 use Rattle.std.specs.Fmt.{signed_decimal}
 use Rattle.rs_base.specs.Escape.{spelling}
-use Rattle.ks_zset.specs.Zset.{Row, rows_of}
+use Rattle.ks_zset.specs.Zset.{ranking_of}
 use Rattle.ks_space.specs.declared.entry.Entry.{Entry}
 use Rattle.ks_space.specs.declared.entry.Value.{Value}
 use Rattle.ks_space.specs.declared.entry.Value.TheVariants as value
@@ -34,8 +34,8 @@ abbrev pub pair_text : (List ℕ × List ℕ) → List ℕ
 pair_text pair = word_text pair.0 ++ word_text pair.1
 
 -- the score of a member of a sorted set, and the member
-abbrev pub row_text : Row → List ℕ
-row_text row = codes " " ++ signed_decimal row.1 ++ word_text row.0
+abbrev pub scored_text : (List ℕ × ℤ) → List ℕ
+scored_text scored = codes " " ++ signed_decimal scored.1 ++ word_text scored.0
 
 -- the string; the items; fields with their values; the members; the members with their scores, ascending by score and
 -- then member
@@ -44,11 +44,12 @@ contents_text (value.Str bytes) = word_text bytes
 contents_text (value.List items) = flat_map word_text items
 contents_text (value.Hash pairs) = flat_map pair_text pairs
 contents_text (value.Set members) = flat_map word_text members
-contents_text (value.Sorted scores) = flat_map row_text (rows_of scores)
+contents_text (value.Sorted scores) = flat_map scored_text (ranking_of scores)
 
 -- `KEY KIND DEADLINE` and the contents, where the deadline is `-` if there is none
 abbrev pub entry_line : (List ℕ × Entry) → List ℕ
-entry_line entry = spelling entry.0 ++ codes " " ++ kind_text entry.1.value ++ codes " " ++ deadline_text entry.1.deadline
+entry_line entry =
+    spelling entry.0 ++ codes " " ++ kind_text entry.1.value ++ codes " " ++ deadline_text entry.1.deadline
     ++ contents_text entry.1.value ++ 10 ∷ []
 
 -- the line of a key, if the key is there

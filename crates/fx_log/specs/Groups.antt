@@ -7,7 +7,7 @@ use Rattle.resp_read.specs.Frames.{frame}
 use Rattle.fx_log.specs.declared.group.Group.{Group}
 
 abbrev pub record_text : Record → List ℕ
-record_text entry = frame (words_of entry)
+record_text r = frame (words_of r)
 
 abbrev pub records_text : List Record → List ℕ
 records_text records = flat_map record_text records

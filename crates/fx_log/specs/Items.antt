@@ -17,11 +17,11 @@ pub data Item : Type 0 where
 
 -- the commands of an item, each by its words
 abbrev pub item_words : Item → List (List (List ℕ))
-item_words (Bare entry) = words_of entry ∷ []
+item_words (Bare r) = words_of r ∷ []
 item_words (Wrapped records) = multi ∷ (map words_of records ++ exec ∷ [])
 
-abbrev pub row_words : List Item → List (List (List ℕ))
-row_words items = flat_map item_words items
+abbrev pub items_words : List Item → List (List (List ℕ))
+items_words items = flat_map item_words items
 
 -- the commands of an item that is not at its end: none, or `MULTI` and records
 abbrev pub open_words : Option (List Record) → List (List (List ℕ))
@@ -30,7 +30,7 @@ open_words (Some records) = multi ∷ map words_of records
 
 -- each record of an item is within the limits
 abbrev pub IsItem : Item → Type 0
-IsItem (Bare entry) = IsRecord entry
+IsItem (Bare r) = IsRecord r
 IsItem (Wrapped records) = AllByRecursion IsRecord records
 
 abbrev pub AreItems : List Item → Type 0
@@ -43,7 +43,8 @@ IsOpen (Some records) = AllByRecursion IsRecord records
 
 -- the commands can go on to a row of items
 abbrev pub BeginsItems : List (List (List ℕ)) → Type 0
-BeginsItems words = (more : List (List (List ℕ))) × (items : List Item) × AreItems items × (words ++ more ≡ row_words items)
+BeginsItems words = (more : List (List (List ℕ))) × (items : List Item) × AreItems items
+    × (words ++ more ≡ items_words items)
 
 -- the group of records between `MULTI` and `EXEC`: none where there is no record
 abbrev pub wrapped_groups : List Record → List Group
@@ -51,10 +52,10 @@ wrapped_groups [] = []
 wrapped_groups (first ∷ records) = record { records = first ∷ records; wrapped = true } ∷ []
 
 abbrev pub bare_group : Record → Group
-bare_group entry = record { records = entry ∷ []; wrapped = false }
+bare_group r = record { records = r ∷ []; wrapped = false }
 
 abbrev pub item_groups : Item → List Group
-item_groups (Bare entry) = bare_group entry ∷ []
+item_groups (Bare r) = bare_group r ∷ []
 item_groups (Wrapped records) = wrapped_groups records
 
 abbrev pub groups_of : List Item → List Group

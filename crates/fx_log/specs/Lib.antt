@@ -3,10 +3,10 @@ pub use Rattle.fx_record.specs.RecordWords
 pub use Rattle.ks_space.specs.Store
 pub use Rattle.fx_record.specs.Records
 pub mod Dump
-pub mod Entries
 pub mod Groups
 pub mod Items
 pub mod Kept
+pub mod LogCommands
+pub mod LogReader
 pub mod Logs
 pub mod Reading
-pub mod Standing

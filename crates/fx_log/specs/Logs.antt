@@ -9,7 +9,7 @@ use Rattle.fx_log.specs.declared.group.Group.{Group}
 use Rattle.fx_log.specs.declared.stops.LogKind.{LogKind}
 use Rattle.fx_log.specs.declared.stops.LogKind.TheVariants.{Frame, Row, Nest}
 use Rattle.fx_log.specs.Groups.{group_text, log_text}
-use Rattle.fx_log.specs.Items.{multi, exec, Item, AreItems, IsOpen, row_words, open_words, BeginsItems, groups_of}
+use Rattle.fx_log.specs.Items.{multi, exec, Item, AreItems, IsOpen, items_words, open_words, BeginsItems, groups_of}
 
 abbrev pub words_in : List Command → List (List (List ℕ))
 words_in commands = map (λ (command : Command). command.words) commands
@@ -21,10 +21,11 @@ StopsItems words (command ∷ rest) = BeginsItems (words ++ command.words ∷ []
 
 -- commands are a row of items, then the part of one, then the command that may not stand there with those behind it, if
 -- there is one
-pub record Splits (commands front rest : List Command) (items : List Item) (opened : Option (List Record)) : Type 0 where
+pub record Splits (commands front rest : List Command) (items : List Item)
+    (opened : Option (List Record)) : Type 0 where
   pub within : AreItems items × IsOpen opened
   pub commands_are : commands ≡ front ++ rest
-  pub front_is : words_in front ≡ row_words items ++ open_words opened
+  pub front_is : words_in front ≡ items_words items ++ open_words opened
   pub stops : StopsItems (words_in front) rest
 
 -- a text is a log so far: its commands are a row of items, then the part of one, and it can go on to a row of frames
@@ -33,7 +34,7 @@ pub record IsLog (text : List ℕ) (items : List Item) (opened : Option (List Re
   pub whole : IsWhole text commands
   pub begins : Begins text
   pub within : AreItems items × IsOpen opened
-  pub words_are : words_in commands ≡ row_words items ++ open_words opened
+  pub words_are : words_in commands ≡ items_words items ++ open_words opened
 
 -- the groups of a text: those of the whole items before the first command that may not stand where it stands
 pub record IsGroups (text : List ℕ) (groups : List Group) : Type 0 where
@@ -50,7 +51,7 @@ pub record IsGroups (text : List ℕ) (groups : List Group) : Type 0 where
 pub record IsNoRow (words : List (List ℕ)) : Type 0 where
   pub no_multi : words ≡ multi → ⊥
   pub no_exec : words ≡ exec → ⊥
-  pub no_record : (entry : Record) → IsRecord entry → words ≡ words_of entry → ⊥
+  pub no_record : (r : Record) → IsRecord r → words ≡ words_of r → ⊥
 
 -- the kind of a command that may not stand where it stands
 abbrev pub IsKind : LogKind → List (List ℕ) → Type 0
@@ -60,7 +61,8 @@ IsKind Nest words = (words ≡ multi) ⊎ (words ≡ exec)
 
 -- the place of the first command that may not stand where it stands; where there is none, that of the bad frame
 abbrev pub IsBadAt : List ℕ → List Command → ℕ → LogKind → Type 0
-IsBadAt text [] place kind = (kind ≡ Frame) × ((at : ℕ) × (bad : BadFrame) × IsBad text at bad × (place ≡ within_u64 at))
+IsBadAt text [] place kind =
+    (kind ≡ Frame) × ((at : ℕ) × (bad : BadFrame) × IsBad text at bad × (place ≡ within_u64 at))
 IsBadAt text (command ∷ rest) place kind = (place ≡ command.place) × IsKind kind command.words
 
 -- the first place, as a `u64`, at which a text is no log, and why

@@ -10,7 +10,7 @@ use Rattle.fx_log.specs.declared.run.Run.TheVariants.{Whole, Bad}
 use Rattle.fx_log.specs.declared.stops.LogKind.{LogKind}
 use Rattle.fx_log.specs.declared.stops.LogKind.TheVariants.{Frame}
 use Rattle.fx_log.specs.Items.{Item, groups_of}
-use Rattle.fx_log.specs.Entries.{entry_of, fits, kind_of, groups_at, open_after}
+use Rattle.fx_log.specs.LogCommands.{command_of, fits, kind_of, groups_at, open_after}
 use Rattle.fx_log.specs.Logs.{IsLog, IsGroups, IsBadLog}
 
 -- the groups, and the records of the group that is open, if one is; or the groups before a bad place, the place and its
@@ -23,9 +23,10 @@ pub data LogRead : Type 0 where
 abbrev pub read_from : List Group → Option (List Record) → List Command → LogRead
 read_from groups opened [] = Reads groups opened
 read_from groups opened (command ∷ commands) =
-    if fits (is_some opened) (entry_of command.words)
-    then read_from (groups ++ groups_at opened (entry_of command.words)) (open_after opened (entry_of command.words)) commands
-    else Breaks groups command.place (kind_of (entry_of command.words))
+    if fits (is_some opened) (command_of command.words)
+    then read_from (groups ++ groups_at opened (command_of command.words))
+    (open_after opened (command_of command.words)) commands
+    else Breaks groups command.place (kind_of (command_of command.words))
 
 -- what commands are read as that were taken so
 abbrev pub as_read : List Group → Run → LogRead

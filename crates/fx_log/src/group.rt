@@ -15,8 +15,8 @@ pub struct Group {
 /// Groups in order.
 pub type Groups = Seq<Group>;
 
-/// Adds the bytes of a group: nothing where it has no record; the frame of a single record, unless the group is wrapped;
-/// and otherwise the frames of its records between those of `MULTI` and `EXEC`.
+/// Adds the bytes of a group: nothing where it has no record; the frame of a single record, unless the group is
+/// wrapped; and otherwise the frames of its records between those of `MULTI` and `EXEC`.
 pub fn write_group(group: &Group, out: &mut Bytes) -> Result<(), NoMemory>
     ensures { OnOk result (out.new ≡ out.old ++ group_text group.now) }
 {

@@ -2,8 +2,8 @@
 //! back.
 #![tactic(auto)]
 
-mod dumping;
-mod entry;
+mod command;
+mod dump_lines;
 mod frames;
 mod group;
 mod laws;
@@ -11,10 +11,8 @@ mod reader;
 mod replay;
 mod run;
 mod stops;
-#[cfg(test)]
-mod tests;
 
-pub use dumping::dump;
+pub use dump_lines::dump;
 pub use fx_record::{Effects, Record};
 pub use group::{Group, Groups, write_group};
 pub use laws::{groups_are_read_back, log_reading_is_the_grammar};

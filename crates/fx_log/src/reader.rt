@@ -6,7 +6,7 @@ ghost use Rattle.fx_log.specs.Groups.{IsWithin};
 ghost use Rattle.fx_log.specs.Items.{IsOpen};
 ghost use Rattle.fx_log.specs.declared.reader.State.{State};
 ghost use Rattle.fx_log.specs.Reading.{Reads, read_from, before_frame};
-ghost use Rattle.fx_log.specs.Standing.{StandsForLog, GoesOn, StopsLog, IsStopOf};
+ghost use Rattle.fx_log.specs.LogReader.{HasReadLog, GoesOn, StopsLog, IsStopOf};
 
 use crate::run::{Run, take_all};
 use crate::{Effects, Groups, LogKind, LogStop};
@@ -50,7 +50,7 @@ impl LogReader {
     /// A reader before the first byte.
     pub fn new(alloc: Global) -> LogReader
         ensures state { result ≡ State.Reading (Waiting 0 []) None }
-        ensures stands { StandsForLog result [] }
+        ensures stands { HasReadLog result [] }
     {
         LogReader {
             alloc,
@@ -69,9 +69,12 @@ impl LogReader {
     pub fn feed(&mut self, piece: &[u8]) -> Result<Groups, LogStop>
         ensures within { IfOk result (All IsWithin) }
         ensures failed { self.old ≡ State.Failed → (result ≡ Err LogStop.Failed) × (self.new ≡ State.Failed) }
-        ensures spent { self.old ≡ State.OutOfMemory → (result ≡ Err LogStop.NoMemory) × (self.new ≡ State.OutOfMemory) }
-        ensures goes { (text : List ℕ) → StandsForLog self.old text → IfOk result (λ groups. GoesOn text piece.now groups self.new) }
-        ensures stops { (text : List ℕ) → StandsForLog self.old text → IfErr result (λ stop. StopsLog text piece.now stop self.old self.new) }
+        ensures spent { self.old ≡ State.OutOfMemory
+            → (result ≡ Err LogStop.NoMemory) × (self.new ≡ State.OutOfMemory) }
+        ensures goes { (text : List ℕ) → HasReadLog self.old text
+            → IfOk result (λ groups. GoesOn text piece.now groups self.new) }
+        ensures stops { (text : List ℕ) → HasReadLog self.old text
+            → IfErr result (λ stop. StopsLog text piece.now stop self.old self.new) }
     {
         // A bad place stays one, whatever comes behind it.
         reading_is_the_grammar();
@@ -97,8 +100,10 @@ impl LogReader {
         requires state { self.old ≡ State.OutOfMemory }
         requires opened { IsOpen opened }
         ensures within { IfOk result (All IsWithin) }
-        ensures goes { (text : List ℕ) → StandsForLog (State.Reading reader opened) text → IfOk result (λ groups. GoesOn text piece.now groups self.new) }
-        ensures stops { (text : List ℕ) → StandsForLog (State.Reading reader opened) text → IfErr result (λ stop. StopsLog text piece.now stop (State.Reading reader opened) self.new) }
+        ensures goes { (text : List ℕ) → HasReadLog (State.Reading reader opened) text
+            → IfOk result (λ groups. GoesOn text piece.now groups self.new) }
+        ensures stops { (text : List ℕ) → HasReadLog (State.Reading reader opened) text
+            → IfErr result (λ stop. StopsLog text piece.now stop (State.Reading reader opened) self.new) }
     {
         // A text reads in one way only, so what a piece adds does not depend on how the bytes before it came.
         reading_is_the_grammar();
@@ -130,7 +135,9 @@ impl LogReader {
         requires state { self.old ≡ State.OutOfMemory }
         requires opened { IsOpen opened }
         ensures within { IfOk result (All IsWithin) }
-        ensures ok { IfOk result (λ groups. (opened_then : Option (List Record)) × (read_from [] opened commands ≡ Reads groups opened_then) × (self.new ≡ State.Reading reader opened_then)) }
+        ensures ok { IfOk result (λ groups. (opened_then : Option (List Record))
+            × (read_from [] opened commands ≡ Reads groups opened_then)
+            × (self.new ≡ State.Reading reader opened_then)) }
         ensures err { IfErr result (λ stop. IsStopOf (read_from [] opened commands) stop self.new) }
     {
         let mut groups = Groups::new(self.alloc);

@@ -14,8 +14,8 @@ pub fn replay_into(space: &mut Space, group: &Group) -> Result<(), NoMemory>
     ensures ok { OnOk result (space.new ≡ applied space.old group.now.records) }
     ensures err { OnErr result (IsPartlyApplied space.old group.now.records space.new) }
 {
-    for effect in group.records.as_slice() {
-        apply(space, effect)?;
+    for record in group.records.as_slice() {
+        apply(space, record)?;
     }
     Ok(())
 }

@@ -1,9 +1,9 @@
 ghost use Rattle.std.specs.Prelude.{◌≡◌, [], ◌∷◌, ◌++◌, IfOk, OnOk};
 ghost use Rattle.fx_log.specs.Items.{wrapped_groups};
-ghost use Rattle.fx_log.specs.Entries.{groups_at, open_after};
+ghost use Rattle.fx_log.specs.LogCommands.{groups_at, open_after};
 ghost use Rattle.fx_log.specs.Reading.{read_from, as_read};
 
-use crate::entry::Entry;
+use crate::command::LogCommand;
 use crate::{Effects, Group, Groups, LogKind, Record};
 use resp_read::{Command, Commands};
 use rs_base::NoMemory;
@@ -30,31 +30,31 @@ pub fn take_all(
     let mut opened = opened;
     for command in commands.into_vec() {
         let Command { words, place } = command;
-        let entry = Entry::from_words(words);
-        if !entry.fits(opened.is_some()) {
+        let log_command = LogCommand::from_words(words);
+        if !log_command.fits(opened.is_some()) {
             return Ok(Run::Bad {
                 place,
-                kind: entry.kind(),
+                kind: log_command.kind(),
             });
         }
-        opened = take(alloc, opened, entry, groups)?;
+        opened = take(alloc, opened, log_command, groups)?;
     }
     Ok(Run::Whole(opened))
 }
 
-// Takes an entry that may stand here, and adds the group that it ends. The records of the group that is open then.
+// Takes a command that may stand here, and adds the group that it ends. The records of the group that is open then.
 fn take(
     alloc: Global,
     opened: Option<Effects>,
-    entry: Entry,
+    command: LogCommand,
     groups: &mut Groups,
 ) -> Result<Option<Effects>, NoMemory>
-    ensures groups { OnOk result (groups.new ≡ groups.old ++ groups_at opened entry) }
-    ensures opened { IfOk result (λ after. after ≡ open_after opened entry) }
+    ensures groups { OnOk result (groups.new ≡ groups.old ++ groups_at opened command) }
+    ensures opened { IfOk result (λ after. after ≡ open_after opened command) }
 {
-    match (opened, entry) {
-        (None, Entry::Begin) => Ok(Some(Effects::new(alloc))),
-        (None, Entry::Effect(record)) => {
+    match (opened, command) {
+        (None, LogCommand::Multi) => Ok(Some(Effects::new(alloc))),
+        (None, LogCommand::Record(record)) => {
             let records = single(alloc, record)?;
             groups.push(Group {
                 records,
@@ -62,11 +62,11 @@ fn take(
             })?;
             Ok(None)
         }
-        (Some(mut records), Entry::Effect(record)) => {
+        (Some(mut records), LogCommand::Record(record)) => {
             records.push(record)?;
             Ok(Some(records))
         }
-        (Some(records), Entry::End) => {
+        (Some(records), LogCommand::Exec) => {
             close(records, groups)?;
             Ok(None)
         }
@@ -74,11 +74,11 @@ fn take(
     }
 }
 
-fn single(alloc: Global, effect: Record) -> Result<Effects, NoMemory>
-    ensures { IfOk result (λ records. records ≡ effect ∷ []) }
+fn single(alloc: Global, record: Record) -> Result<Effects, NoMemory>
+    ensures { IfOk result (λ records. records ≡ «record» ∷ []) }
 {
     let mut records = Effects::new(alloc);
-    records.push(effect)?;
+    records.push(record)?;
     Ok(records)
 }
 

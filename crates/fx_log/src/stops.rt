@@ -17,7 +17,8 @@ pub enum LogKind {
 pub enum LogStop {
     /// The bytes are no log any longer. `place` is that of the bad byte, or of the first byte of the command that may
     /// not stand where it stands, whichever comes first among all bytes of the log, counted from 0; a place past the
-    /// last `u64` is given as that one. `before` are the groups that were whole before it and that no earlier call gave.
+    /// last `u64` is given as that one. `before` are the groups that were whole before it and that no earlier call
+    /// gave.
     Bad {
         before: Groups,
         place: u64,

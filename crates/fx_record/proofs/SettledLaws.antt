@@ -1,15 +1,12 @@
 -- Records that are kept, and stores that are told apart by their codes.
-use Rattle.std.proofs.Common.{◌≡◌, ◌≢◌, Bool, true, false, cond, ◌&&◌, eqb, List, [], ◌↔◌, Decides, refl, ap, sym, subst, ◌∙◌}
+use Rattle.std.proofs.Common.{◌≡◌, ◌≢◌, true, cond, List, [], ◌↔◌, refl, ap, sym, subst, ◌∙◌}
+use Rattle.std.proofs.lemmas.Bool.{and_parts, cond_both}
 use Rattle.std.proofs.lemmas.Bool.Decides.{Decides-eqb}
 use base.Stored.{Gv, gnil, gnum, gcons}
 use Rattle.ks_space.specs.Store.{Store}
 use Rattle.fx_record.specs.declared.record.Record.{Record}
 use Rattle.fx_record.specs.Records.{applied}
 use Rattle.fx_record.specs.Settled.{same_trees, store_code, same_store, settled}
-
-both : (a b : Bool) → (a && b) ≡ true → (a ≡ true) × (b ≡ true)
-both true b e = (refl, e)
-both false b e = absurd (cc)
 
 trees_same : (one other : Gv) → same_trees one other ≡ true → one ≡ other
 trees_same gnil gnil e = refl
@@ -21,7 +18,7 @@ trees_same (gnum m) (gcons c d) e = absurd (cc)
 trees_same (gcons a b) gnil e = absurd (cc)
 trees_same (gcons a b) (gnum n) e = absurd (cc)
 trees_same (gcons a b) (gcons c d) e =
-    let parts = both (same_trees a c) (same_trees b d) e in
+    let parts = and_parts (same_trees a c) (same_trees b d) e in
     let left = trees_same a c parts.0 in
     let right = trees_same b d parts.1 in
     cc
@@ -42,21 +39,20 @@ same_store-itself store = same_itself (store_code.code store)
 -- records that lead back are not kept
 pub settled-back : (store : Store) (rs : List Record) → applied store rs ≡ store → settled store rs ≡ []
 settled-back store rs back =
-    let same : same_store (applied store rs) store ≡ true = subst (λ s. same_store s store ≡ true) (sym back) (same_store-itself store) in
+    let same : same_store (applied store rs) store ≡ true =
+    subst (λ s. same_store s store ≡ true) (sym back) (same_store-itself store) in
     ap (λ t. cond t [] rs) same
-
-by_test : (P : Bool → Type 0) (b : Bool) → (b ≡ true → P true) → (b ≡ false → P false) → P b
-by_test P true yes_case no_case = yes_case refl
-by_test P false yes_case no_case = no_case refl
 
 -- and others are
 pub settled-other : (store : Store) (rs : List Record) → applied store rs ≢ store → settled store rs ≡ rs
 settled-other store rs other =
-    by_test (λ t. cond t [] rs ≡ rs) (same_store (applied store rs) store) (λ yes. absurd (other (same_store-is (applied store rs) store yes))) (λ no. refl)
+    cond_both (same_store (applied store rs) store) [] rs (λ kept. kept ≡ rs)
+    (λ yes. absurd (other (same_store-is (applied store rs) store yes))) (λ no. refl)
 
 pub settled-same : (store : Store) (rs : List Record) → applied store (settled store rs) ≡ applied store rs
 settled-same store rs =
-    by_test (λ t. applied store (cond t [] rs) ≡ applied store rs) (same_store (applied store rs) store) (λ yes. sym (same_store-is (applied store rs) store yes)) (λ no. refl)
+    cond_both (same_store (applied store rs) store) [] rs (λ kept. applied store kept ≡ applied store rs)
+    (λ yes. sym (same_store-is (applied store rs) store yes)) (λ no. refl)
 
 settled-none : (store : Store) (rs : List Record) → settled store rs ≡ [] → applied store rs ≡ store
 settled-none store rs none = sym (settled-same store rs) ∙ ap (applied store) none

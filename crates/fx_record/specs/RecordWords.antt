@@ -1,12 +1,14 @@
 -- Effect records as words, and words as effect records.
-use Rattle.std.specs.Prelude.{ℕ, ◌^◌, Bool, nat_lt, nat_le, ◌&&◌, if◌then◌else◌, List, [], ◌∷◌, Option, Some, None, length, codes, decimal}
+use Rattle.std.specs.Prelude.{ℕ, ◌^◌, Bool, nat_lt, nat_le, ◌&&◌, if◌then◌else◌, List, [], ◌∷◌, Option, Some, None}
+use Rattle.std.specs.Prelude.{length, codes, decimal}
 use Rattle.std.specs.List.{list_all}
 use Rattle.std.specs.Option.{option_map}
 use Rattle.std.specs.Str.{bytes_eq}
 use Rattle.std.specs.Str.Parse.{digits_value}
 use Rattle.ks_space.specs.Store.{IsShort, IsKey, IsDeadline}
 use Rattle.fx_record.specs.declared.record.Record.{Record}
-use Rattle.fx_record.specs.declared.record.Record.TheVariants.{Set, SetUntil, SetKeeping, Del, ExpireAt, Persist, Rename, FlushAll}
+use Rattle.fx_record.specs.declared.record.Record.TheVariants.{Set, SetUntil, SetKeeping, Del, ExpireAt, Persist}
+use Rattle.fx_record.specs.declared.record.Record.TheVariants.{Rename, FlushAll}
 
 -- the words of a record: a command that does the same, its name in upper case, a deadline in decimal
 abbrev pub words_of : Record → List (List ℕ)
@@ -33,7 +35,8 @@ IsRecord FlushAll = Unit {0}
 -- the deadline that a word writes: none where it is not the decimal of one
 abbrev pub deadline_of : List ℕ → Option ℕ
 deadline_of word =
-    if bytes_eq word (decimal (digits_value 10 word)) && nat_lt (digits_value 10 word) (2 ^ 63) then Some (digits_value 10 word) else None
+    if bytes_eq word (decimal (digits_value 10 word)) && nat_lt (digits_value 10 word) (2 ^ 63) then Some
+    (digits_value 10 word) else None
 
 -- what a name alone stands for, and what it stands for with one word, two, three and four words behind it
 abbrev pub alone : List ℕ → Option Record
@@ -51,11 +54,13 @@ with_two name key word =
     else (if bytes_eq name (codes "PEXPIREAT") then option_map (ExpireAt key) (deadline_of word) else None))
 
 abbrev pub with_three : List ℕ → List ℕ → List ℕ → List ℕ → Option Record
-with_three name key value option = if bytes_eq name (codes "SET") && bytes_eq option (codes "KEEPTTL") then Some (SetKeeping key value) else None
+with_three name key value option = if bytes_eq name (codes "SET") && bytes_eq option (codes "KEEPTTL") then Some
+    (SetKeeping key value) else None
 
 abbrev pub with_four : List ℕ → List ℕ → List ℕ → List ℕ → List ℕ → Option Record
 with_four name key value option number =
-    if bytes_eq name (codes "SET") && bytes_eq option (codes "PXAT") then option_map (SetUntil key value) (deadline_of number) else None
+    if bytes_eq name (codes "SET") && bytes_eq option (codes "PXAT") then option_map (SetUntil key value)
+    (deadline_of number) else None
 
 abbrev pub record_shaped : List (List ℕ) → Option Record
 record_shaped [] = None

@@ -6,7 +6,8 @@ use Rattle.ks_space.specs.declared.entry.Entry.{Entry}
 use Rattle.ks_space.specs.declared.entry.Value.TheVariants.{Str}
 use Rattle.ks_space.specs.Store.{Store, deadline_at, with_deadline}
 use Rattle.fx_record.specs.declared.record.Record.{Record}
-use Rattle.fx_record.specs.declared.record.Record.TheVariants.{Set, SetUntil, SetKeeping, Del, ExpireAt, Persist, Rename, FlushAll}
+use Rattle.fx_record.specs.declared.record.Record.TheVariants.{Set, SetUntil, SetKeeping, Del, ExpireAt, Persist}
+use Rattle.fx_record.specs.declared.record.Record.TheVariants.{Rename, FlushAll}
 
 -- a string, and its deadline, if any
 abbrev pub string_entry : List ℕ → Option ℕ → Entry

@@ -5,8 +5,6 @@
 mod laws;
 mod record;
 mod steps;
-#[cfg(test)]
-mod tests;
 
 pub use laws::{
     each_record_has_its_own_words, records_change_their_key_alone, records_keep_to_the_limits,

@@ -1,7 +1,8 @@
 ghost use Rattle.std.specs.Prelude.{◌≡◌, map, IfOk, IfSome, decimal};
 ghost use Rattle.std.specs.List.{list_all};
 ghost use Rattle.std.specs.Str.{bytes_eq};
-ghost use Rattle.fx_record.specs.RecordWords.{words_of, record_of, record_shaped, IsRecord, deadline_of, is_short, alone, with_one, with_two, with_three, with_four};
+ghost use Rattle.fx_record.specs.RecordWords.{words_of, record_of, record_shaped, IsRecord, deadline_of, is_short};
+ghost use Rattle.fx_record.specs.RecordWords.{alone, with_one, with_two, with_three, with_four};
 
 use rs_base::{Bytes, NoMemory, Seq, Words, parse_decimal, write_decimal};
 use std::alloc::Global;
@@ -60,7 +61,8 @@ pub const MAX_TEXT_BYTES: usize = 16_777_216;
 
 impl Record {
     /// The record that these words are. `None` exactly where they are none: another name, in letters of another case,
-    /// another number of words, a deadline that is no decimal from 0 to 2^63-1, or a word of more than 16,777,216 bytes.
+    /// another number of words, a deadline that is no decimal from 0 to 2^63-1, or a word of more than 16,777,216
+    /// bytes.
     pub fn from_words(words: Words) -> Option<Record>
         ensures value { result ≡ record_of words }
         ensures within { IfSome result IsRecord }

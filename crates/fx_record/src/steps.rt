@@ -10,12 +10,12 @@ use ks_space::{Entry, Space, Value};
 use rs_base::{Bytes, NoMemory};
 
 /// Does to the store what a record says. After `NoMemory` the store is as it was.
-pub fn apply(space: &mut Space, effect: &Record) -> Result<(), NoMemory>
-    requires { IsRecord effect.now }
-    ensures ok { OnOk result (space.new ≡ apply space.old effect.now) }
+pub fn apply(space: &mut Space, record: &Record) -> Result<(), NoMemory>
+    requires { IsRecord «record».now }
+    ensures ok { OnOk result (space.new ≡ apply space.old «record».now) }
     ensures err { OnErr result (space.new ≡ space.old) }
 {
-    match effect {
+    match record {
         Record::Set { key, value } => set(space, key, value, None),
         Record::SetUntil {
             key,
@@ -27,7 +27,7 @@ pub fn apply(space: &mut Space, effect: &Record) -> Result<(), NoMemory>
             set(space, key, value, deadline)
         }
         Record::Del { key } => {
-            let _gone = space.take(key.as_slice());
+            space.take(key.as_slice());
             Ok(())
         }
         Record::ExpireAt { key, deadline } => expire(space, key, Some(*deadline)),
@@ -41,24 +41,25 @@ pub fn apply(space: &mut Space, effect: &Record) -> Result<(), NoMemory>
 }
 
 /// Does to the store what a record says, and adds the record to the effects, unless the store is as the record would
-/// leave it already: then nothing is done or added. After `NoMemory` the store and the effects are only good for dropping.
-pub fn carry_out(space: &mut Space, effects: &mut Effects, effect: Record) -> Result<(), NoMemory>
-    requires { IsRecord effect }
-    ensures store { OnOk result (space.new ≡ apply space.old effect) }
-    ensures effects { OnOk result (effects.new ≡ effects.old ++ settled space.old (effect ∷ [])) }
+/// leave it already: then nothing is done or added. After `NoMemory` the store and the effects are only good for
+/// dropping.
+pub fn carry_out(space: &mut Space, effects: &mut Effects, record: Record) -> Result<(), NoMemory>
+    requires { IsRecord «record» }
+    ensures store { OnOk result (space.new ≡ apply space.old «record») }
+    ensures effects { OnOk result (effects.new ≡ effects.old ++ settled space.old («record» ∷ [])) }
 {
-    if stays(space, &effect) {
+    if stays(space, &record) {
         return Ok(());
     }
-    apply(space, &effect)?;
-    effects.push(effect)
+    apply(space, &record)?;
+    effects.push(record)
 }
 
 // Whether a record leaves the store as it is. Of all values only strings are compared.
-fn stays(space: &Space, effect: &Record) -> bool
-    ensures { IsTrue result ↔ (apply space.now effect.now ≡ space.now) }
+fn stays(space: &Space, record: &Record) -> bool
+    ensures { IsTrue result ↔ (apply space.now «record».now ≡ space.now) }
 {
-    match effect {
+    match record {
         Record::Set { key, value } => has_string(space, key, value, None),
         Record::SetUntil {
             key,
@@ -92,7 +93,8 @@ fn has_string(space: &Space, key: &Bytes, value: &Bytes, deadline: Option<u64>) 
 
 // Whether a key has this string, whatever its deadline.
 fn holds_string(space: &Space, key: &Bytes, value: &Bytes) -> bool
-    ensures { IsTrue result ↔ (finite.get space.now key.now ≡ Some (string_entry value.now (deadline_at space.now key.now))) }
+    ensures { IsTrue result ↔ (finite.get space.now key.now
+        ≡ Some (string_entry value.now (deadline_at space.now key.now))) }
 {
     match space.get(key.as_slice()) {
         Some(entry) => is_string(entry, value, entry.deadline),
@@ -119,12 +121,14 @@ fn has_deadline(space: &Space, key: &Bytes, deadline: Option<u64>) -> bool
     }
 }
 
+// `==` of two texts, with the fact that it decides.
 fn is_same(one: &Bytes, other: &Bytes) -> bool
     ensures { IsTrue result ↔ (one.now ≡ other.now) }
 {
     one == other
 }
 
+// `==` of two deadlines, with the fact that it decides.
 fn is_same_deadline(one: Option<u64>, other: Option<u64>) -> bool
     ensures { IsTrue result ↔ (one ≡ other) }
 {
@@ -177,7 +181,8 @@ fn rename(space: &mut Space, from: &Bytes, to: &Bytes) -> Result<(), NoMemory>
     if is_absent(space, from) || is_same(from, to) {
         return Ok(());
     }
-    // All that wants memory comes first: the other key, with the deadline that it is to have, holds some string by then.
+    // All that wants memory comes first: the other key, with the deadline that it is to have, holds some string by
+    // then.
     let key = to.clone()?;
     let place = Entry {
         value: Value::Str(to.clone()?),

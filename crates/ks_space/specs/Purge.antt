@@ -37,7 +37,8 @@ purged store time = fold finite.remove store (gone store time)
 
 -- the order of two keys by their deadlines and then by their bytes
 abbrev pub by_deadline : Store → List ℕ → List ℕ → Ordering
-by_deadline store a b = ordering_then (nat_cmp (unwrap_or (deadline_at store a) 0) (unwrap_or (deadline_at store b) 0)) (bytes_cmp a b)
+by_deadline store a b =
+    ordering_then (nat_cmp (unwrap_or (deadline_at store a) 0) (unwrap_or (deadline_at store b) 0)) (bytes_cmp a b)
 
 -- no deadline is below the time
 abbrev pub IsTimely : Store → ℕ → Type 0

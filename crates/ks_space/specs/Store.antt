@@ -19,7 +19,8 @@ deadline_at store key = option_and_then (λ entry. entry.deadline) (finite.get s
 
 -- the store in which a key that is there has this deadline, or none, and its value as it was
 abbrev pub with_deadline : Store → List ℕ → Option ℕ → Store
-with_deadline store key deadline = option_map_or (λ entry. finite.insert store key (record entry { deadline = deadline })) (finite.get store key) store
+with_deadline store key deadline =
+    option_map_or (λ entry. finite.insert store key (record entry { deadline = deadline })) (finite.get store key) store
 
 -- at most 16,777,216 bytes
 abbrev pub IsShort : List ℕ → Type 0
@@ -33,14 +34,15 @@ IsKey = IsShort
 abbrev pub IsDeadline : ℕ → Type 0
 IsDeadline at = at < 2 ^ 63
 
--- a value that a store may hold: no collection is empty, no field of a hash stands twice, the members of a set ascend in
--- byte order, and each text is short
+-- a value that a store may hold: no collection is empty, no field of a hash stands twice, the members of a set ascend
+-- in byte order, and each text is short
 abbrev pub IsValue : Value → Type 0
 IsValue (value.Str text) = IsShort text
 IsValue (value.List items) = (items ≢ []) × All IsShort items
 IsValue (value.Hash pairs) = (pairs ≢ []) × HasDistinctFields pairs × All (λ p. IsShort p.0 × IsShort p.1) pairs
 IsValue (value.Set members) = (members ≢ []) × IsAscending members × All IsShort members
-IsValue (value.Sorted scores) = (finite.len scores ≢ 0) × ((member : List ℕ) (score : ℤ) → finite.get scores member ≡ Some score → IsShort member)
+IsValue (value.Sorted scores) =
+    (finite.len scores ≢ 0) × ((member : List ℕ) (score : ℤ) → finite.get scores member ≡ Some score → IsShort member)
 
 -- an entry that a store may hold
 abbrev pub IsKept : Entry → Type 0

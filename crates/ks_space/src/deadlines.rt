@@ -1,4 +1,5 @@
-ghost use Rattle.std.specs.Prelude.{◌≡◌, ◌<◌, nat_lt, Bool, not, ◌&&◌, ◌||◌, OnOk, OnErr, IfOk, IfSome, IfNone, Some, [], ◌∷◌, filter};
+ghost use Rattle.std.specs.Prelude.{◌≡◌, ◌<◌, nat_lt, Bool, not, ◌&&◌, ◌||◌, OnOk, OnErr, IfOk, IfSome, IfNone, Some};
+ghost use Rattle.std.specs.Prelude.{[], ◌∷◌, filter};
 ghost use Rattle.std.specs.List.Sorted.{IsStrictlySortedBy};
 ghost use Rattle.ks_space.specs.Purge.{due_cmp};
 ghost use Rattle.ks_space.specs.Index.{IsIndex, is_due, due_of};
@@ -80,7 +81,8 @@ impl Deadlines {
 
     /// Removes a due, where there is one.
     pub fn leave(&mut self, due: &Option<Due>)
-        ensures { (test : Due → Bool) → IsIndex self.old test → IsIndex self.new (λ q. not (is_due due.now q) && test q) }
+        ensures { (test : Due → Bool) → IsIndex self.old test
+            → IsIndex self.new (λ q. not (is_due due.now q) && test q) }
     {
         if let Some(due) = due {
             self.dues.remove(due);
@@ -90,7 +92,8 @@ impl Deadlines {
     /// Takes the soonest due off, if its deadline is below the time.
     pub fn pop_before(&mut self, time: u64) -> Option<Due>
         ensures none { IfNone result (self.new ≡ self.old) }
-        ensures all { IsStrictlySortedBy due_cmp self.old → IfNone result (filter (λ due. nat_lt due.at time) self.old ≡ []) }
+        ensures all { IsStrictlySortedBy due_cmp self.old
+            → IfNone result (filter (λ due. nat_lt due.at time) self.old ≡ []) }
         ensures first { IfSome result (λ due. self.old ≡ due ∷ self.new) }
         ensures below { IfSome result (λ due. due.at < time) }
         ensures rest { (test : Due → Bool) → IsIndex self.old test

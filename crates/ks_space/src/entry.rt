@@ -18,7 +18,8 @@ pub enum Value {
     Sorted(Zset),
 }
 
-/// A value, and its deadline: the last millisecond, counted from the Unix epoch, at which the key is still there, or none.
+/// A value, and its deadline: the last millisecond, counted from the Unix epoch, at which the key is still there, or
+/// none.
 #[derive(Debug, Drop, PartialEq, Eq)]
 pub struct Entry {
     pub value: Value,

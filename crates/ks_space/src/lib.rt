@@ -10,6 +10,3 @@ mod table;
 pub use entry::{Entry, Value};
 pub use laws::{purge_removes_the_keys_past_their_deadline, stores_with_equal_entries_are_equal};
 pub use space::Space;
-
-#[cfg(test)]
-mod tests;

@@ -1,4 +1,5 @@
-ghost use Rattle.std.specs.Prelude.{◌≡◌, Some, ◌≢◌, ◌↔◌, IsTrue, OnOk, OnErr, IfOk, IfSome, IfNone, is_some, slice_get, [], ◌∷◌};
+ghost use Rattle.std.specs.Prelude.{◌≡◌, Some, ◌≢◌, ◌↔◌, IsTrue, OnOk, OnErr, IfOk, IfSome, IfNone, is_some, slice_get};
+ghost use Rattle.std.specs.Prelude.{[], ◌∷◌};
 ghost use Rattle.std.specs.Option.{option_copied, option_map};
 ghost use Rattle.std.specs.FinMap as finite;
 ghost use Rattle.ks_space.specs.Store.{IsKey, IsKept, IsStore, IsDeadline, with_deadline};
@@ -70,7 +71,7 @@ impl Space {
         ensures err { OnErr result (self.new ≡ self.old) }
     {
         let before = self.table.deadline(key.as_slice());
-        if same(before, entry.deadline) {
+        if are_same(before, entry.deadline) {
             let old = self.table.put(key, entry)?;
             return Ok(old);
         }
@@ -101,8 +102,8 @@ impl Space {
         Some(entry)
     }
 
-    /// Gives a key this deadline, or none, in place of the one that it had; its value stays. `false` exactly where the key
-    /// is absent, which changes nothing. After `NoMemory` the store is as it was.
+    /// Gives a key this deadline, or none, in place of the one that it had; its value stays. `false` exactly where
+    /// the key is absent, which changes nothing. After `NoMemory` the store is as it was.
     pub fn set_deadline(&mut self, key: &[u8], deadline: Option<u64>) -> Result<bool, NoMemory>
         requires { IfSome deadline IsDeadline }
         ensures found { IfOk result (λ found. found ≡ is_some (finite.get self.old key.now)) }
@@ -113,7 +114,7 @@ impl Space {
             return Ok(false);
         };
         let before = entry.deadline;
-        if same(before, deadline) {
+        if are_same(before, deadline) {
             return Ok(true);
         }
         let leaving = Due::of(Bytes::from_slice(self.alloc, key)?, before);
@@ -171,8 +172,8 @@ impl Space {
         self.deadlines.clear();
     }
 
-    /// The key at `place` in byte order, counted from 0. `None` exactly where `place` is not below the number of keys. It puts
-    /// all of the keys in order.
+    /// The key at `place` in byte order, counted from 0. `None` exactly where `place` is not below the number of
+    /// keys. It puts all of the keys in order.
     pub fn key_at(&self, place: usize) -> Result<Option<Bytes>, NoMemory>
         ensures { IfOk result (λ key. key ≡ slice_get (finite.keys self.now) place) }
     {
@@ -200,7 +201,8 @@ impl Space {
     }
 }
 
-fn same(one: Option<u64>, other: Option<u64>) -> bool
+// In a function of its own, since proofs then read off it that the deadlines are one.
+fn are_same(one: Option<u64>, other: Option<u64>) -> bool
     ensures { IsTrue result ↔ (one ≡ other) }
 {
     one == other

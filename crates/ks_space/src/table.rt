@@ -9,8 +9,8 @@ use rs_base::{Bytes, NoMemory, Words};
 use std::alloc::{AllocError, Global};
 use std::marker::Model;
 
-/// Keys with their entries, without an index of the deadlines. A key is found by its hash. Contracts see it as a finite map in
-/// the order of the keys' bytes, which is made where it is asked for.
+/// Keys with their entries, without an index of the deadlines. A key is found by its hash. Contracts see it as a
+/// finite map in the order of the keys' bytes, which is made where it is asked for.
 #[derive(Drop)]
 pub struct Table {
     alloc: Global,

@@ -1,5 +1,5 @@
-//! Does work on a store or a value, so many items and rounds as the arguments say, which `bench/store.py` times: it writes
-//! how much was found, and to standard error how many microseconds the work took.
+//! Does work on a store or a value, so many items and rounds as the arguments say, which `bench/store.py` times: it
+//! writes how much was found, and to standard error how many microseconds the work took.
 #![tactic(auto)]
 
 mod items;

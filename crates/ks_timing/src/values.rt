@@ -2,8 +2,8 @@ use crate::items::{scattered, text};
 use ks_value::{HashValue, ListValue, SetValue};
 use std::alloc::Global;
 
-/// Pushes items at both ends of a list by turns, looks each up by its place, and pops them by turns. Counts those that were
-/// found and those that were popped, two an item.
+/// Pushes items at both ends of a list by turns, looks each up by its place, and pops them by turns. Counts those
+/// that were found and those that were popped, two an item.
 pub fn list(alloc: Global, items: u64) -> Option<u64> {
     let mut list = pushed(alloc, items)?;
     let found = found_at_places(&list);
@@ -71,8 +71,8 @@ fn found_fields(alloc: Global, hash: &HashValue, items: u64) -> Option<u64> {
     Some(found)
 }
 
-/// Inserts members into a set in scattered order, looks each up by its place, and removes them. Counts those that were found
-/// and those that were removed, two an item.
+/// Inserts members into a set in scattered order, looks each up by its place, and removes them. Counts those that
+/// were found and those that were removed, two an item.
 pub fn set(alloc: Global, items: u64) -> Option<u64> {
     let mut set = SetValue::new(alloc);
     for i in 0..items {

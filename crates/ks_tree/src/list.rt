@@ -1,4 +1,5 @@
-ghost use Rattle.std.specs.Prelude.{◌≡◌, ◌<◌, ◌≤◌, ◌↔◌, [], Bool, Some, length, IsTrue, IfOk, OnOk, OnErr, OnSome, insert, remove, count_by, slice_get, slice_range};
+ghost use Rattle.std.specs.Prelude.{◌≡◌, ◌<◌, ◌≤◌, ◌↔◌, [], Bool, Some, length, IsTrue, IfOk, OnOk, OnErr, OnSome};
+ghost use Rattle.std.specs.Prelude.{insert, remove, count_by, slice_get, slice_range};
 ghost use Rattle.std.specs.Option.{option_copied};
 ghost use Rattle.std.specs.Fn.{ComputesKey};
 ghost use Rattle.std.specs.List.{AllZip};
@@ -75,7 +76,8 @@ impl<T> TreeList<T> {
     pub fn partition_point<P: FnMut(&T) -> bool>(&self, pred: P) -> usize
         requires { P.IsAlwaysCallable pred }
         ensures within { result ≤ length self.now }
-        ensures count { (p : T → Bool) → ComputesKey P.FnMut p pred → IsPartitionedBy p self.now → result ≡ count_by p self.now }
+        ensures count { (p : T → Bool) → ComputesKey P.FnMut p pred → IsPartitionedBy p self.now
+            → result ≡ count_by p self.now }
     {
         self.tree.partition_point(pred)
     }

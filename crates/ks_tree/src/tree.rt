@@ -1,4 +1,5 @@
-ghost use Rattle.std.specs.Prelude.{◌≡◌, ◌+◌, ◌-◌, ◌*◌, ◌<◌, ◌≤◌, ◌↔◌, ◌^◌, [], ◌∷◌, ◌++◌, Bool, List, Some, length, IsTrue, IfOk, OnOk, insert, remove, count_by, slice_get, slice_range};
+ghost use Rattle.std.specs.Prelude.{◌≡◌, ◌+◌, ◌-◌, ◌*◌, ◌<◌, ◌≤◌, ◌↔◌, ◌^◌, [], ◌∷◌, ◌++◌, Bool, List, Some, length};
+ghost use Rattle.std.specs.Prelude.{IsTrue, IfOk, OnOk, insert, remove, count_by, slice_get, slice_range};
 ghost use Rattle.std.specs.Option.{option_copied};
 ghost use Rattle.std.specs.Fn.{ComputesKey};
 ghost use Rattle.std.specs.List.{AllZip};
@@ -19,8 +20,8 @@ use std::mem;
 #[derive(Debug, Drop)]
 pub struct Tree<T> {
     root: Root<T>,
-    /// How many items it has. It stands beside the root, not in it, so that a look at a side's length does not reach for
-    /// that side's memory.
+    /// How many items it has. It stands beside the root, not in it, so that a look at a side's length does not reach
+    /// for that side's memory.
     len: usize,
 }
 
@@ -233,7 +234,8 @@ impl<T> Tree<T> {
     pub fn partition_point<P: FnMut(&T) -> bool>(&self, mut pred: P) -> usize
         requires { P.IsAlwaysCallable pred }
         ensures within { result ≤ length self.now }
-        ensures count { (p : T → Bool) → ComputesKey P.FnMut p pred → IsPartitionedBy p self.now → result ≡ count_by p self.now }
+        ensures count { (p : T → Bool) → ComputesKey P.FnMut p pred → IsPartitionedBy p self.now
+            → result ≡ count_by p self.now }
     {
         let mut count = self.len();
         let mut tree = self;
@@ -253,7 +255,9 @@ impl<T: Clone + Drop> Node<T> {
     /// Adds a clone of the node's own item, where its place is from `from` up to and without `to`.
     fn copy_item(&self, from: usize, to: usize, copies: &mut Seq<T>) -> Result<(), NoMemory>
         ensures { OnOk result ((xs : List T) → AllZip T.is_clone xs copies.old
-            → AllZip T.is_clone (xs ++ slice_range (self.now.item ∷ []) (from - length self.now.left) (to - length self.now.left)) copies.new) }
+            → AllZip T.is_clone
+            (xs ++ slice_range (self.now.item ∷ []) (from - length self.now.left) (to - length self.now.left))
+            copies.new) }
     {
         let here = self.left.len();
         if from > here || to <= here {
@@ -266,7 +270,8 @@ impl<T: Clone + Drop> Node<T> {
 impl<T: Clone + Drop> Tree<T> {
     /// Adds clones of the items from `from` up to and without `to`, of those that there are.
     pub fn copy_range(&self, from: usize, to: usize, copies: &mut Seq<T>) -> Result<(), NoMemory>
-        ensures { OnOk result ((xs : List T) → AllZip T.is_clone xs copies.old → AllZip T.is_clone (xs ++ slice_range self.now from to) copies.new) }
+        ensures { OnOk result ((xs : List T) → AllZip T.is_clone xs copies.old
+            → AllZip T.is_clone (xs ++ slice_range self.now from to) copies.new) }
     {
         let Root::Full(node) = &self.root else {
             return Ok(());

@@ -79,7 +79,8 @@ impl HashValue {
         self.pairs.shift_remove(field)
     }
 
-    /// The field at `at`, counted from 0 in order of first insertion. `None` exactly where `at` is not below the length.
+    /// The field at `at`, counted from 0 in order of first insertion. `None` exactly where `at` is not below the
+    /// length.
     pub fn field(&self, at: usize) -> Option<&[u8]>
         ensures value { option_copied result ≡ option_map (λ p. p.0) (slice_get self.now at) }
         ensures within { OnSome result (at < length self.now) }
@@ -88,8 +89,8 @@ impl HashValue {
         Some(field.as_slice())
     }
 
-    /// The value of the field at `at`, counted from 0 in order of first insertion. `None` exactly where `at` is not below
-    /// the length.
+    /// The value of the field at `at`, counted from 0 in order of first insertion. `None` exactly where `at` is not
+    /// below the length.
     pub fn value(&self, at: usize) -> Option<&Bytes>
         ensures value { option_copied result ≡ option_map (λ p. p.1) (slice_get self.now at) }
         ensures within { OnSome result (at < length self.now) }
@@ -115,15 +116,11 @@ impl HashValue {
 }
 
 impl PartialEq for HashValue {
-    ghost use Rattle.std.specs.Prelude.{◌&&◌};
-    ghost use Rattle.std.specs.Cmp.{partial_equiv_from_equiv, on_equiv, and_equiv};
-    ghost use Rattle.std.specs.Cmp.Lexicographic.{pointwise, lists_equiv};
-    ghost use Rattle.std.specs.Str.{bytes_eq};
-    ghost use Rattle.std.proofs.lemmas.Cmp.{nat_list_eq_equiv};
+    ghost use Rattle.ks_value.specs.Fields.{are_same_pairs, same_pairs_per};
 
-    ghost eq = { pointwise (λ p q. bytes_eq p.0 q.0 && bytes_eq p.1 q.1) };
+    ghost eq = { are_same_pairs };
 
-    ghost laws = { partial_equiv_from_equiv (lists_equiv (and_equiv (on_equiv (λ p. p.0) nat_list_eq_equiv) (on_equiv (λ p. p.1) nat_list_eq_equiv))) };
+    ghost laws = { same_pairs_per };
 
     fn eq(&self, other: &HashValue) -> bool {
         self.pairs.as_slice() == other.pairs.as_slice()
@@ -131,11 +128,9 @@ impl PartialEq for HashValue {
 }
 
 impl Eq for HashValue {
-    ghost use Rattle.std.specs.Cmp.{on_equiv, and_equiv};
-    ghost use Rattle.std.specs.Cmp.Lexicographic.{lists_equiv};
-    ghost use Rattle.std.proofs.lemmas.Cmp.{nat_list_eq_equiv};
+    ghost use Rattle.ks_value.specs.Fields.{same_pairs_equiv};
 
-    ghost laws = { lists_equiv (and_equiv (on_equiv (λ p. p.0) nat_list_eq_equiv) (on_equiv (λ p. p.1) nat_list_eq_equiv)) };
+    ghost laws = { same_pairs_equiv };
 }
 
 impl Clone for HashValue {

@@ -82,8 +82,8 @@ impl<'a> Iterator for HashIter<'a> {
     }
 }
 
-/// The members of a set in byte order, each in time of the number's logarithm. Contracts see it as the list of those that
-/// are left.
+/// The members of a set in byte order, each in time of the number's logarithm. Contracts see it as the list of those
+/// that are left.
 #[derive(Drop)]
 pub struct SetIter<'a> {
     members: &'a TreeList<Member>,

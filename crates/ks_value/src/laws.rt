@@ -1,4 +1,5 @@
-ghost use Rattle.std.specs.Prelude.{◌≡◌, ◌≢◌, ◌↔◌, ℕ, List, [], ◌∷◌, ◌++◌, Some, None, true, false, not, filter, Contains, IsSome, IsTrue};
+ghost use Rattle.std.specs.Prelude.{◌≡◌, ◌≢◌, ◌↔◌, ℕ, List, [], ◌∷◌, ◌++◌, Some, None, true, false, not, filter};
+ghost use Rattle.std.specs.Prelude.{Contains, IsSome, IsTrue};
 ghost use Rattle.std.specs.Str.{bytes_eq};
 ghost use Rattle.ks_value.specs.Fields.{Pairs, fields, HasDistinctFields, value_of, set_field, remove_field};
 ghost use Rattle.ks_value.specs.Members.{IsAscending, is_member, insert_member, remove_member};
@@ -37,8 +38,10 @@ pub fn a_field_that_is_removed_leaves_alone()
 /// each other one is there exactly where it was. The members stay in byte order, each once, and two sets of the same
 /// members are equal.
 pub fn a_set_changes_by_one_member()
-    ensures member { (members : List (List ℕ)) (member : List ℕ) → IsTrue (is_member members member) ↔ Contains members member }
-    ensures inserted { (members : List (List ℕ)) (member : List ℕ) → is_member (insert_member members member) member ≡ true }
+    ensures member { (members : List (List ℕ)) (member : List ℕ)
+        → IsTrue (is_member members member) ↔ Contains members member }
+    ensures inserted { (members : List (List ℕ)) (member : List ℕ)
+        → is_member (insert_member members member) member ≡ true }
     ensures others_stay { (members : List (List ℕ)) (member other : List ℕ) → other ≢ member
         → is_member (insert_member members member) other ≡ is_member members other }
     ensures removed { (members : List (List ℕ)) (member : List ℕ) → IsAscending members

@@ -7,8 +7,6 @@ mod laws;
 mod list;
 mod member;
 mod set;
-#[cfg(test)]
-mod tests;
 
 pub use hash::HashValue;
 pub use iter::{HashIter, ListIter, SetIter};

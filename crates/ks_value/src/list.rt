@@ -1,4 +1,5 @@
-ghost use Rattle.std.specs.Prelude.{◌≡◌, ◌-◌, ◌<◌, ◌↔◌, [], ◌∷◌, ◌++◌, length, slice_get, slice_set, remove, take, drop, IsTrue, IfOk, OnOk, OnErr, OnSome};
+ghost use Rattle.std.specs.Prelude.{◌≡◌, ◌-◌, ◌<◌, ◌↔◌, [], ◌∷◌, ◌++◌, length, slice_get, slice_set, remove, take};
+ghost use Rattle.std.specs.Prelude.{drop, IsTrue, IfOk, OnOk, OnErr, OnSome};
 ghost use Rattle.std.specs.Option.{option_copied, option_to_list};
 
 use crate::ListIter;
@@ -128,14 +129,11 @@ impl ListValue {
 }
 
 impl PartialEq for ListValue {
-    ghost use Rattle.std.specs.Cmp.{partial_equiv_from_equiv};
-    ghost use Rattle.std.specs.Cmp.Lexicographic.{pointwise, lists_equiv};
-    ghost use Rattle.std.specs.Str.{bytes_eq};
-    ghost use Rattle.std.proofs.lemmas.Cmp.{nat_list_eq_equiv};
+    ghost use Rattle.ks_value.specs.Texts.{are_same_texts, same_texts_per};
 
-    ghost eq = { λ x y. pointwise bytes_eq x y };
+    ghost eq = { are_same_texts };
 
-    ghost laws = { partial_equiv_from_equiv (lists_equiv nat_list_eq_equiv) };
+    ghost laws = { same_texts_per };
 
     fn eq(&self, other: &ListValue) -> bool {
         self.items == other.items
@@ -143,10 +141,9 @@ impl PartialEq for ListValue {
 }
 
 impl Eq for ListValue {
-    ghost use Rattle.std.specs.Cmp.Lexicographic.{lists_equiv};
-    ghost use Rattle.std.proofs.lemmas.Cmp.{nat_list_eq_equiv};
+    ghost use Rattle.ks_value.specs.Texts.{same_texts_equiv};
 
-    ghost laws = { lists_equiv nat_list_eq_equiv };
+    ghost laws = { same_texts_equiv };
 }
 
 impl Clone for ListValue {

@@ -8,8 +8,8 @@ use std::marker::Model;
 // So many bytes of a member stand in the set's own nodes. With them a node is as large as with 16.
 const INLINE_BYTES: usize = 24;
 
-/// A member of a set. Contracts see it as the list of its bytes. The bytes of a short one stand in the value itself, so that
-/// a search compares them without another reach into memory.
+/// A member of a set. Contracts see it as the list of its bytes. The bytes of a short one stand in the value itself,
+/// so that a search compares them without another reach into memory.
 #[derive(Debug, Drop)]
 pub struct Member {
     bytes: SmallVec<u8, INLINE_BYTES>,

@@ -1,4 +1,5 @@
-ghost use Rattle.std.specs.Prelude.{◌≡◌, ◌<◌, ◌↔◌, [], false, length, not, slice_get, count_by, IsTrue, IfOk, OnOk, OnErr, OnSome};
+ghost use Rattle.std.specs.Prelude.{◌≡◌, ◌<◌, ◌↔◌, [], false, length, not, slice_get, count_by, IsTrue, IfOk, OnOk};
+ghost use Rattle.std.specs.Prelude.{OnErr, OnSome};
 ghost use Rattle.std.specs.Option.{option_copied, option_map_or};
 ghost use Rattle.std.specs.Ordering.{is_lt};
 ghost use Rattle.std.specs.Str.{bytes_eq};
@@ -12,8 +13,8 @@ use rs_base::{Bytes, NoMemory};
 use std::alloc::{AllocError, Global};
 use std::marker::Model;
 
-/// Members, each once (Redis manual, sets). Contracts see it as the list of the members in byte order. A member is found,
-/// inserted, removed or reached by its place in time of the number's logarithm.
+/// Members, each once (Redis manual, sets). Contracts see it as the list of the members in byte order. A member is
+/// found, inserted, removed or reached by its place in time of the number's logarithm.
 #[derive(Debug, Drop)]
 pub struct SetValue {
     alloc: Global,
@@ -149,14 +150,11 @@ impl SetValue {
 }
 
 impl PartialEq for SetValue {
-    ghost use Rattle.std.specs.Cmp.{partial_equiv_from_equiv};
-    ghost use Rattle.std.specs.Cmp.Lexicographic.{pointwise, lists_equiv};
-    ghost use Rattle.std.specs.Str.{bytes_eq};
-    ghost use Rattle.std.proofs.lemmas.Cmp.{nat_list_eq_equiv};
+    ghost use Rattle.ks_value.specs.Texts.{are_same_texts, same_texts_per};
 
-    ghost eq = { λ x y. pointwise bytes_eq x y };
+    ghost eq = { are_same_texts };
 
-    ghost laws = { partial_equiv_from_equiv (lists_equiv nat_list_eq_equiv) };
+    ghost laws = { same_texts_per };
 
     fn eq(&self, other: &SetValue) -> bool {
         if self.len() != other.len() {
@@ -172,10 +170,9 @@ impl PartialEq for SetValue {
 }
 
 impl Eq for SetValue {
-    ghost use Rattle.std.specs.Cmp.Lexicographic.{lists_equiv};
-    ghost use Rattle.std.proofs.lemmas.Cmp.{nat_list_eq_equiv};
+    ghost use Rattle.ks_value.specs.Texts.{same_texts_equiv};
 
-    ghost laws = { lists_equiv nat_list_eq_equiv };
+    ghost laws = { same_texts_equiv };
 }
 
 impl Clone for SetValue {

@@ -1,2 +1,2 @@
-pub mod Index
+pub mod Ranked
 pub mod ScoreOrder

@@ -1,4 +1,4 @@
--- The order of score and then member is total, and tells all rows apart.
+-- The order of score and then member is total, and tells all members with their scores apart.
 use Rattle.std.proofs.Common.{◌≡◌, ℤ, Bool, true, false, cond, not, ◌&&◌, ◌⊎◌, inl, inr, Ordering, int_lt, refl, sym, ap, ◌∙◌}
 use mathlib.Core.Bool.{true≢false}
 use Rattle.std.specs.Ordering.{is_eq, is_lt, eq_by_cmp, int_cmp, int_eq, ordering_then}
@@ -8,10 +8,10 @@ use Rattle.std.specs.FinMap.{IsAntisymmetric, int_cmp-IsAntisymmetric}
 use Rattle.std.proofs.lemmas.Cmp.{int_cmp_total, nat_list_cmp_total, on_total, then_total}
 use Rattle.ks_tree.specs.Order.{bytes_cmp}
 use Rattle.ks_tree.proofs.ByteOrder.{bytes_exact}
-use Rattle.ks_zset.specs.Zset.{Row, by_score, is_below}
+use Rattle.ks_zset.specs.Zset.{ScoredMember, by_score, is_below}
 
 pub score_total : IsTotalOrder by_score
-score_total = then_total (on_total (λ (p : Row). p.1) int_cmp_total) (on_total (λ (p : Row). p.0) nat_list_cmp_total)
+score_total = then_total (on_total (λ (p : ScoredMember). p.1) int_cmp_total) (on_total (λ (p : ScoredMember). p.0) nat_list_cmp_total)
 
 then_equal : (r s : Ordering) → ordering_then r s ≡ Equal → (r ≡ Equal) × (s ≡ Equal)
 then_equal Less s e = absurd (true≢false (sym (ap is_eq e)))
@@ -36,9 +36,9 @@ then_is_eq Greater Less = refl
 then_is_eq Greater Equal = refl
 then_is_eq Greater Greater = refl
 
--- rows are the same where the members and the scores are
-pub same_row : (a b : Row) → eq_by_cmp by_score a b ≡ (eq_by_cmp bytes_cmp a.0 b.0 && eq_by_cmp int_cmp a.1 b.1)
-same_row a b = then_is_eq (int_cmp a.1 b.1) (bytes_cmp a.0 b.0)
+-- members with scores are the same where the members and the scores are
+pub same_scored : (a b : ScoredMember) → eq_by_cmp by_score a b ≡ (eq_by_cmp bytes_cmp a.0 b.0 && eq_by_cmp int_cmp a.1 b.1)
+same_scored a b = then_is_eq (int_cmp a.1 b.1) (bytes_cmp a.0 b.0)
 
 lt_by_cmp : (x y : ℤ) → int_lt x y ≡ is_lt (int_cmp x y)
 lt_by_cmp x y =
@@ -68,8 +68,8 @@ turned_false : (b : Bool) → not b ≡ true → b ≡ true → ⊥
 turned_false true e t = true≢false (sym e)
 turned_false false e t = true≢false (sym t)
 
--- a row that comes before one with a score below the bound has such a score too
-pub below_falls : (or_equal : Bool) (bound : ℤ) (a b : Row) → by_score a b ≡ Less → is_below or_equal bound b.1 ≡ true → is_below or_equal bound a.1 ≡ true
+-- what comes before a score below the bound has such a score too
+pub below_falls : (or_equal : Bool) (bound : ℤ) (a b : ScoredMember) → by_score a b ≡ Less → is_below or_equal bound b.1 ≡ true → is_below or_equal bound a.1 ≡ true
 below_falls true bound a b e passes =
     elim (less_or_same a.1 b.1 (bytes_cmp a.0 b.0) e) [
       | inl below ↦ not_true (int_lt bound a.1) (λ t. turned_false (int_lt bound b.1) passes

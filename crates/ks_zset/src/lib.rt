@@ -2,13 +2,11 @@
 #![tactic(auto)]
 
 mod laws;
-mod rows;
+mod ranking;
 mod scores;
-#[cfg(test)]
-mod tests;
 mod zset;
 
-pub use laws::rows_are_the_members_in_order;
+pub use laws::the_ranking_is_the_members_in_order;
 pub use zset::Zset;
 
 /// Members with their scores, in order.

@@ -1,10 +1,11 @@
-ghost use Rattle.std.specs.Prelude.{◌≡◌, ◌≢◌, ◌↔◌, Some, None, position, count_by, slice_range, IsTrue, IfOk, OnOk, OnErr};
+ghost use Rattle.std.specs.Prelude.{◌≡◌, ◌≢◌, ◌↔◌, Some, None, position, count_by, slice_range, IsTrue, IfOk, OnOk};
+ghost use Rattle.std.specs.Prelude.{OnErr};
 ghost use Rattle.std.specs.FinMap as finite;
 ghost use Rattle.std.specs.Str.{bytes_eq};
-ghost use Rattle.ks_zset.specs.Zset.{rows_of, is_below};
+ghost use Rattle.ks_zset.specs.Zset.{ranking_of, is_below};
 
 use crate::Scored;
-use crate::rows::Rows;
+use crate::ranking::Ranking;
 use crate::scores::Scores;
 use rs_base::{Bytes, NoMemory};
 use rs_whole::Whole;
@@ -12,18 +13,18 @@ use std::alloc::{AllocError, Global};
 use std::marker::Model;
 
 /// Members with a score each. Contracts see it as the finite map from member to score, in the order of the members'
-/// bytes; `rows_of` is their list in the order of score and then member.
+/// bytes; `ranking_of` is their list in the order of score and then member.
 #[derive(Debug, Drop)]
 pub struct Zset {
     scores: Scores,
-    rows: Rows,
+    ranking: Ranking,
 }
 
 impl Model for Zset {
     ghost use Rattle.std.specs.Prelude.{◌≡◌};
     ghost use Rattle.std.specs.Coded.{coded_list, coded_ℕ, coded_ℤ};
     ghost use Rattle.std.specs.FinMap as finite;
-    ghost use Rattle.ks_zset.specs.Zset.{ScoreMap, rows_of};
+    ghost use Rattle.ks_zset.specs.Zset.{ScoreMap, ranking_of};
 
     ghost Value = { ScoreMap };
 
@@ -31,7 +32,7 @@ impl Model for Zset {
 
     ghost view = { λ z. z.scores };
 
-    ghost invariant = { λ z. z.rows ≡ rows_of z.scores };
+    ghost invariant = { λ z. z.ranking ≡ ranking_of z.scores };
 }
 
 impl Zset {
@@ -41,7 +42,7 @@ impl Zset {
     {
         Zset {
             scores: Scores::new(alloc),
-            rows: Rows::new(alloc),
+            ranking: Ranking::new(alloc),
         }
     }
 
@@ -75,30 +76,30 @@ impl Zset {
     /// The place of a member in the order of score and then member, counted from 0. `None` exactly where the member is
     /// absent.
     pub fn rank(&self, member: &[u8]) -> Option<usize>
-        ensures { result ≡ position (λ row. bytes_eq row.0 member.now) (rows_of self.now) }
+        ensures { result ≡ position (λ scored. bytes_eq scored.0 member.now) (ranking_of self.now) }
     {
         match self.scores.get(member) {
             None => None,
-            Some(score) => Some(self.rows.place(member, score)),
+            Some(score) => Some(self.ranking.place(member, score)),
         }
     }
 
     /// The number of members with a lower score, or with `or_equal` with a lower or equal one.
     pub fn below(&self, score: Whole, or_equal: bool) -> usize
-        ensures { result ≡ count_by (λ row. is_below or_equal score row.1) (rows_of self.now) }
+        ensures { result ≡ count_by (λ scored. is_below or_equal score scored.1) (ranking_of self.now) }
     {
-        self.rows.below(score, or_equal)
+        self.ranking.below(score, or_equal)
     }
 
     /// The members with their scores at the ranks from `from` up to and without `to`, of those that there are.
     pub fn ranks(&self, from: usize, to: usize) -> Result<Scored, NoMemory>
-        ensures { IfOk result (λ rows. rows ≡ slice_range (rows_of self.now) from to) }
+        ensures { IfOk result (λ members. members ≡ slice_range (ranking_of self.now) from to) }
     {
-        self.rows.range(from, to)
+        self.ranking.range(from, to)
     }
 
-    /// Gives a member a score, and answers its old one: `None` exactly where the member was absent. After `NoMemory` the
-    /// set is as it was.
+    /// Gives a member a score, and answers its old one: `None` exactly where the member was absent. After `NoMemory`
+    /// the set is as it was.
     pub fn insert(&mut self, member: Bytes, score: Whole) -> Result<Option<Whole>, NoMemory>
         ensures old { IfOk result (λ old. old ≡ finite.get self.old member) }
         ensures ok { OnOk result (self.new ≡ finite.insert self.old member score) }
@@ -124,11 +125,11 @@ impl Zset {
         ensures ok { OnOk result (self.new ≡ finite.insert self.old member score) }
         ensures err { OnErr result (self.new ≡ self.old) }
     {
-        let place = self.rows.insert(member.clone()?, score)?;
+        let place = self.ranking.insert(member.clone()?, score)?;
         match self.scores.insert(member, score) {
             Ok(_) => Ok(()),
             Err(refused) => {
-                self.rows.remove_at(place);
+                self.ranking.remove_at(place);
                 Err(refused)
             }
         }
@@ -140,8 +141,8 @@ impl Zset {
         ensures ok { OnOk result (self.new ≡ finite.insert self.old member score) }
         ensures err { OnErr result (self.new ≡ self.old) }
     {
-        self.rows.insert(member.clone()?, score)?;
-        self.rows.remove(member.as_slice(), old);
+        self.ranking.insert(member.clone()?, score)?;
+        self.ranking.remove(member.as_slice(), old);
         // It is not refused, since the member is there.
         self.scores.insert(member, score)?;
         Ok(())
@@ -154,7 +155,7 @@ impl Zset {
     {
         let old = self.scores.remove(member);
         if let Some(score) = old {
-            self.rows.remove(member, score);
+            self.ranking.remove(member, score);
         }
         old
     }
@@ -187,7 +188,7 @@ impl Clone for Zset {
     fn clone(&self) -> Result<Zset, AllocError> {
         Ok(Zset {
             scores: self.scores.clone()?,
-            rows: self.rows.clone()?,
+            ranking: self.ranking.clone()?,
         })
     }
 }

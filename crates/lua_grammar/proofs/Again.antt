@@ -18,7 +18,8 @@ use Rattle.lua_grammar.proofs.Continuations.{instead, Shown}
 use Rattle.lua_grammar.proofs.Carry.{carry_shown}
 
 pub again : {c : Context} (k : Class) {rules : Rules} (x : Tree k) {i j j' : Position} {n : ℕ} {words : List Word}
-    → Spelled every_rule c (thing_of k x) i j → Shown j n words → Reads rules c k (instead n words i) j' → j' ≡ instead n words j
+    → Spelled every_rule c (thing_of k x) i j → Shown j n words → Reads rules c k (instead n words i) j'
+    → j' ≡ instead n words j
 again class.expression {rules} x y s (x', z) = sym ((once (carry_shown y rules s) _ _ z).1)
 again (class.operand rank) {rules} x y s (x', z) = sym ((once (carry_shown y rules s) _ _ z).1)
 again (class.links rank) {rules} x y s (x', z) = sym ((once (carry_shown y rules s) _ _ z).1)
@@ -53,20 +54,25 @@ again class.targets {rules} x y s (x', z) = sym ((once (carry_shown y rules s)).
 again class.target {rules} x y s (x', z) = sym ((once (carry_shown y rules s)).0 _ _ z).1
 
 -- and the same tree
-pub again_unique : {c : Context} {t : Thing} {i j : Position} → Spelled every_rule c t i j → (rules : Rules) {n : ℕ} {words : List Word}
+pub again_unique : {c : Context} {t : Thing} {i j : Position} → Spelled every_rule c t i j
+    → (rules : Rules) {n : ℕ} {words : List Word}
     → Shown j n words → Unique rules c t (instead n words i) (instead n words j)
 again_unique x rules s = once (carry_shown x rules s)
 
-pub again_parameters : {c : Context} {rules : Rules} {names names' : List Name} {varargs varargs' : Bool} {i j j' : Position}
+pub again_parameters : {c : Context} {rules : Rules} {names names' : List Name} {varargs varargs' : Bool}
+    {i j j' : Position}
     {n : ℕ} {words : List Word} → Spelled every_rule c (thing.parameters names varargs) i j → Shown j n words
-    → Spelled rules c (thing.parameters names' varargs') (instead n words i) j' → (varargs ≡ varargs') × (j' ≡ instead n words j)
+    → Spelled rules c (thing.parameters names' varargs') (instead n words i) j'
+    → (varargs ≡ varargs') × (j' ≡ instead n words j)
 again_parameters {rules = rules} x s y =
     let (same, more, end) = again_unique x rules s _ _ _ y in
     (more, sym end)
 
-pub again_own_chain : {c : Context} {rules : Rules} {head head' : Expr} {all all' : List Suffix} {i j j' : Position} {n : ℕ} {words : List Word}
+pub again_own_chain : {c : Context} {rules : Rules} {head head' : Expr} {all all' : List Suffix} {i j j' : Position}
+    {n : ℕ} {words : List Word}
     → Spelled every_rule c (thing.own_chain head all) i j → Shown j n words
-    → Spelled rules c (thing.own_chain head' all') (instead n words i) j' → (head ≡ head') × (all ≡ all') × (j' ≡ instead n words j)
+    → Spelled rules c (thing.own_chain head' all') (instead n words i) j'
+    → (head ≡ head') × (all ≡ all') × (j' ≡ instead n words j)
 again_own_chain {rules = rules} x s y =
     let (same, more, end) = again_unique x rules s _ _ _ y in
     (same, more, sym end)

@@ -8,7 +8,7 @@ use Rattle.lua_grammar.specs.Words.{begins_suffix}
 use Rattle.lua_grammar.specs.Positions as at
 use Rattle.lua_grammar.specs.Positions.{Position}
 use Rattle.lua_grammar.specs.Classes.{Class}
-use Rattle.lua_grammar.specs.Rows.{Part}
+use Rattle.lua_grammar.specs.Productions.{Part}
 use Rattle.lua_grammar.specs.Stuck as stuck
 use Rattle.lua_grammar.specs.Stuck.{Stuck, Refuses}
 
@@ -22,9 +22,10 @@ refuses_end (stuck.too_long some long) e = absurd (cc (some, e))
 not_at_end : (P : Option TokenKind → Bool) (w : Option TokenKind) → P w ≡ true → w ≡ None → P None ≡ true
 not_at_end P w p e = ap P (sym e) ∙ p
 
-pub unexpected_end : {f : SyntaxKind} {c : Context} {k : Class} {i z : Position} → Stuck f c k i z → at.kind z ≡ None → f ≡ fault.Unexpected
-unexpected_end (stuck.refused row read r) e = refuses_end r e
-unexpected_end (stuck.inside row read s) e = unexpected_end s e
+pub unexpected_end : {f : SyntaxKind} {c : Context} {k : Class} {i z : Position} → Stuck f c k i z → at.kind z ≡ None
+    → f ≡ fault.Unexpected
+unexpected_end (stuck.refused production read r) e = refuses_end r e
+unexpected_end (stuck.inside production read s) e = unexpected_end s e
 unexpected_end (stuck.expression s) e = unexpected_end s e
 unexpected_end (stuck.unary_level {i = i} low high s full) e = absurd (cc (s, e))
 unexpected_end (stuck.simple b) e = refl
@@ -42,7 +43,8 @@ unexpected_end (stuck.suffix b count s) e = unexpected_end s e
 unexpected_end (stuck.suffixes b count x s) e = unexpected_end s e
 unexpected_end (stuck.arguments b) e = refl
 unexpected_end (stuck.arguments_line s far) e = absurd (cc (s, e))
-unexpected_end (stuck.arguments_level {i = i} n b near full) e = absurd (cc (not_at_end stuck.nests_suffix (at.kind i) n e))
+unexpected_end (stuck.arguments_level {i = i} n b near full) e =
+    absurd (cc (not_at_end stuck.nests_suffix (at.kind i) n e))
 unexpected_end (stuck.first_expression s) e = unexpected_end s e
 unexpected_end (stuck.more_expressions x t s) e = unexpected_end s e
 unexpected_end (stuck.constructor_level s full) e = absurd (cc (s, e))

@@ -13,7 +13,8 @@ ends_operands (Some kind.ElseIf) e = (refl, refl)
 ends_operands (Some kind.Until) e = (refl, refl)
 ends_operands w e = cc
 
-pub ends_with_no : (k : TokenKind) → ends_block (Some k) ≡ false → (w : Option TokenKind) → ends_block w ≡ true → w ≢ Some k
+pub ends_with_no : (k : TokenKind) → ends_block (Some k) ≡ false → (w : Option TokenKind) → ends_block w ≡ true
+    → w ≢ Some k
 ends_with_no k n w e f = cc (sym e ∙ ap ends_block f ∙ n)
 
 pub ends_lists : (w : Option TokenKind) → ends_block w ≡ true → EndsList w

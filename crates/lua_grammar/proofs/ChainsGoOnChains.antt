@@ -31,14 +31,16 @@ ends_as false e all end = inr end
 -- ---- behind a head that goes on
 
 -- a field behind the head
-head_member : (rules : Rules) (c : Context) (n : ℕ) (i : Position) → i.suffixes ≡ 0 → GoesOn rules c class.head n i → ChainGoesOn rules c false n i
+head_member : (rules : Rules) (c : Context) (n : ℕ) (i : Position) → i.suffixes ≡ 0 → GoesOn rules c class.head n i
+    → ChainGoesOn rules c false n i
 head_member rules c n i none goes t ends =
     let (more, j, (e, x), behind) = goes (member_words ++ t) (λ s. tt) in
     let count : IsShort rules j.suffixes = short rules j.suffixes (omega (arith, head_kept x, none)) in
     let (all, k, xs, end, is_key) = member_last rules c j t count behind ends in
     (more ++ member_words, e, all, k, regrouped n more member_words t i (by.chain x xs), end, inr is_key)
 
-pub chain_head_goes_on : (rules : Rules) (c : Context) (sought : Sought) (n : ℕ) (i : Position) → GoesOn rules c class.head n i
+pub chain_head_goes_on : (rules : Rules) (c : Context) (sought : Sought) (n : ℕ) (i : Position)
+    → GoesOn rules c class.head n i
     → Goal rules c (class.chain sought) n i
 chain_head_goes_on rules c class.anything n i goes =
     λ t follows.
@@ -69,7 +71,8 @@ suffixes_inside rules c class.target n i j e x goes =
     (more, e, all, k, by.chain (x (more ++ t)) xs, behind, ends_as false e all end)
 
 pub chain_suffixes_goes_on : {f : SyntaxKind} (c : Context) (sought : Sought) {e : Expr} (i : Position) {j z : Position}
-    → Spelled every_rule c (thing.head e) i j → {rules : Rules} {n : ℕ} → Mode f z rules n → length z.words ≤ length j.words
+    → Spelled every_rule c (thing.head e) i j → {rules : Rules} {n : ℕ} → Mode f z rules n
+    → length z.words ≤ length j.words
     → (n < length j.words → Goal rules c (class.suffixes sought) n j) → Goal rules c (class.chain sought) n i
 chain_suffixes_goes_on c sought {e} i {j} x {rules} {n} mode le goes = by_cases (eq-or-lt_of_le left)
   where
@@ -80,12 +83,14 @@ chain_suffixes_goes_on c sought {e} i {j} x {rules} {n} mode le goes = by_cases 
     at_last is t follows = ([], instead n t j, (e, carry x rules n t left (inr tt)), words_from j is)
 
     by_cases : (n ≡ length j.words) ⊎ (n < length j.words) → Goal rules c (class.chain sought) n i
-    by_cases (inr more) = suffixes_inside rules c sought n i j e (λ words. carry x rules n words left (inr tt)) (goes more)
+    by_cases (inr more) = suffixes_inside rules c sought n i j e (λ words. carry x rules n words left (inr tt))
+        (goes more)
     by_cases (inl is) = chain_head_goes_on rules c sought n i (at_last is)
 
 -- ---- as an expression of its own
 
-pub own_chain_goes_on : (rules : Rules) (c : Context) (sought : Sought) (n : ℕ) (i : Position) → Goal rules c (class.chain sought) n (fresh i)
+pub own_chain_goes_on : (rules : Rules) (c : Context) (sought : Sought) (n : ℕ) (i : Position)
+    → Goal rules c (class.chain sought) n (fresh i)
     → Goal rules c (class.own_chain sought) n i
 own_chain_goes_on rules c class.anything n i goes =
     λ t follows.
@@ -95,8 +100,15 @@ own_chain_goes_on rules c class.front n i goes =
     let (call, goes_on) = goes refl in (
       call,
       λ t ends.
-          let (more, e, all, j, s, behind, end) = goes_on t ends in
-          (more, e, all, resumed i j, by.own_chain (record { begun = refl }) s (record { resumed = refl }), behind, end),
+          let (more, e, all, j, s, behind, end) = goes_on t ends in (
+            more,
+            e,
+            all,
+            resumed i j,
+            by.own_chain (record { begun = refl }) s (record { resumed = refl }),
+            behind,
+            end,
+          ),
     )
 own_chain_goes_on rules c class.target n i goes =
     λ t ends.

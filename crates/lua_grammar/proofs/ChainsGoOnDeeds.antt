@@ -1,5 +1,6 @@
 -- How a call or an assignment goes on that a reader gets stuck in.
-use Rattle.std.proofs.Common.{◌≡◌, ◌⊎◌, inl, inr, ℕ, ◌<◌, ◌≤◌, Bool, true, false, List, [], ◌∷◌, ◌++◌, length, refl, arith}
+use Rattle.std.proofs.Common.{◌≡◌, ◌⊎◌, inl, inr, ℕ, ◌<◌, ◌≤◌, Bool, true, false, List, [], ◌∷◌, ◌++◌, length, refl}
+use Rattle.std.proofs.Common.{arith}
 use Rattle.std.proofs.Math.Nat.{eq-or-lt_of_le}
 use Rattle.lua_lex.specs.declared.kinds.TokenKind.TheVariants as kind
 use Rattle.lua_grammar.specs.declared.kinds.SyntaxKind.{SyntaxKind}
@@ -32,14 +33,16 @@ use Rattle.lua_grammar.proofs.ChainsGoOnTargets.{read_whole, target_goes_on, fir
 abbrev assign_words : List Word
 assign_words = word_of kind.Assign ∷ nil_words
 
-assign_behind : (rules : Rules) (c : Context) (targets : List Target) (i j : Position) (t : List Word) → Spelled rules c (thing.targets targets) i j
+assign_behind : (rules : Rules) (c : Context) (targets : List Target) (i j : Position) (t : List Word)
+    → Spelled rules c (thing.targets targets) i j
     → j.words ≡ assign_words ++ t → EndsList (lead t) → ReadsTo rules c class.deed i t
 assign_behind rules c targets i j t s behind ends =
     let (k, (es, xs), end) = nil_list (at.next j) (next_words j behind) ends in
     (k, (_, by.assign s (takes_front j behind) xs), end)
 
 -- targets that go on are assigned to
-assignment_goes_on : (rules : Rules) (c : Context) (n : ℕ) (i : Position) → GoesOn rules c class.targets n i → GoesOn rules c class.deed n i
+assignment_goes_on : (rules : Rules) (c : Context) (n : ℕ) (i : Position) → GoesOn rules c class.targets n i
+    → GoesOn rules c class.deed n i
 assignment_goes_on rules c n i goes t follows =
     let (more, j, (targets, s), behind) = goes (assign_words ++ t) (λ y. ((refl, refl), λ e. cc)) in
     let words = (more ++ assign_words) ++ t in
@@ -49,7 +52,8 @@ assignment_goes_on rules c n i goes t follows =
 
 -- ---- each way to get stuck
 
-pub front_goes_on : (rules : Rules) (c : Context) (n : ℕ) (i : Position) → (call : Bool) × OwnChainGoesOn rules c call n i → GoesOn rules c class.deed n i
+pub front_goes_on : (rules : Rules) (c : Context) (n : ℕ) (i : Position)
+    → (call : Bool) × OwnChainGoesOn rules c call n i → GoesOn rules c class.deed n i
 front_goes_on rules c n i (true, goes) t follows =
     let (ends, none) = ends_lists (lead t) (follows deed_of.Break) in
     let (more, e, all, j, s, behind, (suffixes, how, is)) = goes t ends in
@@ -58,23 +62,30 @@ front_goes_on rules c n i (false, goes) t follows =
     assignment_goes_on rules c n i (first_target_goes_on rules c n i (target_goes_on rules c n i goes)) t follows
 
 -- a parenthesis alone
-pub alone_goes_on : {c : Context} {e : Expr} {i j : Position} → Spelled every_rule c (thing.own_chain e []) i j → {rules : Rules} {n : ℕ}
+pub alone_goes_on : {c : Context} {e : Expr} {i j : Position} → Spelled every_rule c (thing.own_chain e []) i j
+    → {rules : Rules} {n : ℕ}
     → Mode fault.Unexpected j rules n → GoesOn rules c class.deed n i
-alone_goes_on {c} {i = i} s {rules} {n} mode = assignment_goes_on rules c n i (first_target_goes_on rules c n i (target.alone_goes_on s mode))
+alone_goes_on {c} {i = i} s {rules} {n} mode =
+    assignment_goes_on rules c n i (first_target_goes_on rules c n i (target.alone_goes_on s mode))
 
 pub more_of_targets_goes_on : {f : SyntaxKind} (c : Context) {x : Target} (i : Position) {j k z : Position}
     → Spelled every_rule c (thing.target x) i j → Takes kind.Comma j k → {rules : Rules} {n : ℕ} → Mode f z rules n
-    → length z.words ≤ length k.words → (n < length k.words → GoesOn rules c class.targets n k) → GoesOn rules c class.deed n i
-more_of_targets_goes_on c i x comma {rules} {n} mode le goes = assignment_goes_on rules c n i (more_targets_goes_on c i x comma mode le goes)
+    → length z.words ≤ length k.words → (n < length k.words → GoesOn rules c class.targets n k)
+    → GoesOn rules c class.deed n i
+more_of_targets_goes_on c i x comma {rules} {n} mode le goes =
+    assignment_goes_on rules c n i (more_targets_goes_on c i x comma mode le goes)
 
-pub no_assign_goes_on : {c : Context} {targets : List Target} {i j : Position} → Spelled every_rule c (thing.targets targets) i j
+pub no_assign_goes_on : {c : Context} {targets : List Target} {i j : Position}
+    → Spelled every_rule c (thing.targets targets) i j
     → {rules : Rules} {n : ℕ} → Mode fault.Unexpected j rules n → GoesOn rules c class.deed n i
 no_assign_goes_on {c} {targets} {i} {j} s {rules} {n} mode =
     assignment_goes_on rules c n i (read_whole rules c class.targets n i j targets s (all_seen mode))
 
 pub assigned_goes_on : {f : SyntaxKind} (c : Context) {targets : List Target} (i : Position) {j k z : Position}
-    → Spelled every_rule c (thing.targets targets) i j → Takes kind.Assign j k → {rules : Rules} {n : ℕ} → Mode f z rules n
-    → length z.words ≤ length k.words → (n < length k.words → GoesOn rules c class.list n k) → GoesOn rules c class.deed n i
+    → Spelled every_rule c (thing.targets targets) i j → Takes kind.Assign j k → {rules : Rules} {n : ℕ}
+    → Mode f z rules n
+    → length z.words ≤ length k.words → (n < length k.words → GoesOn rules c class.list n k)
+    → GoesOn rules c class.deed n i
 assigned_goes_on c {targets} i {j} {k} x assign {rules} {n} mode le goes t follows = by_cases (eq-or-lt_of_le left)
   where
     left : n ≤ length k.words
@@ -90,7 +101,8 @@ assigned_goes_on c {targets} i {j} {k} x assign {rules} {n} mode le goes t follo
     ends = ends_lists (lead t) (follows deed_of.Break)
 
     by_cases : (n ≡ length k.words) ⊎ (n < length k.words)
-        → (more : List Word) × (end : Position) × Reads rules c class.deed (instead n (more ++ t) i) end × (end.words ≡ t)
+        → (more : List Word) × (end : Position) × Reads rules c class.deed (instead n (more ++ t) i) end
+        × (end.words ≡ t)
     by_cases (inr less) =
         let (more, end, (es, s), behind) = goes less t (λ y. ends) in
         (more, end, (_, by.assign (front (more ++ t)) (takes_instead n (more ++ t) assign left) s), behind)

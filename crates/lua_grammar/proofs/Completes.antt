@@ -1,5 +1,6 @@
--- Rows of parts, completed by the shortest words.
-use Rattle.std.proofs.Common.{◌≡◌, ℕ, ◌≤◌, true, false, List, [], ◌∷◌, ◌++◌, Option, Some, None, refl, sym, ap, ◌∙◌, subst}
+-- Productions, completed by the shortest words.
+use Rattle.std.proofs.Common.{◌≡◌, ℕ, ◌≤◌, true, false, List, [], ◌∷◌, ◌++◌, Option, Some, None, refl, sym, ap, ◌∙◌}
+use Rattle.std.proofs.Common.{subst}
 use Rattle.std.proofs.lemmas.List.{append_assoc}
 use Rattle.lua_lex.specs.declared.kinds.TokenKind.{TokenKind}
 use Rattle.lua_lex.specs.declared.kinds.TokenKind.TheVariants as kind
@@ -19,12 +20,15 @@ use Rattle.lua_grammar.specs.Contexts.{Rules}
 use Rattle.lua_grammar.specs.Parts.{stat_of, branch_of}
 use Rattle.lua_grammar.specs.Classes as class
 use Rattle.lua_grammar.specs.Classes.{Class, Tree, thing_of, EndsInCall}
-use Rattle.lua_grammar.specs.Rows as part
-use Rattle.lua_grammar.specs.Rows.{Part, IsPart, IsRow, HasLevel}
+use Rattle.lua_grammar.specs.Productions as part
+use Rattle.lua_grammar.specs.Productions.{Part, IsPart, AreParts, HasLevel}
 use Rattle.lua_grammar.proofs.Ends.{nothing_is_end}
 use Rattle.lua_grammar.proofs.Continuations.{lead, Follows, MayFollow}
 use Rattle.lua_grammar.proofs.Behind.{ends_with_no, other}
-use Rattle.lua_grammar.proofs.Least.{least, front_line, next_words, lead_is, takes_front, takes_front_name, nil_expression, nil_operand, nil_list, text_arguments, one_name, no_fields, empty_block, no_links, no_branches, no_else, no_step, no_path, no_values, least_function_body, least_loop, least_branch, least_range}
+use Rattle.lua_grammar.proofs.Least.{least, front_line, next_words, lead_is, takes_front, takes_front_name}
+use Rattle.lua_grammar.proofs.Least.{nil_expression, nil_operand, nil_list, text_arguments, one_name, no_fields}
+use Rattle.lua_grammar.proofs.Least.{empty_block, no_links, no_branches, no_else, no_step, no_path, no_values}
+use Rattle.lua_grammar.proofs.Least.{least_function_body, least_loop, least_branch, least_range}
 use Rattle.lua_grammar.proofs.Modes.{room}
 
 -- ---- what may come behind a class
@@ -124,11 +128,13 @@ fit part.semicolon ps F f = f
 fit part.block_end ps F f = f
 fit p ps F f = (λ w x. tt, f)
 
-first_of_is : (words : List Word) (G : Option TokenKind → Type 0) (rest : List Word) → G (lead rest) → FirstOf words G (lead (words ++ rest))
+first_of_is : (words : List Word) (G : Option TokenKind → Type 0) (rest : List Word) → G (lead rest)
+    → FirstOf words G (lead (words ++ rest))
 first_of_is [] G rest g = g
 first_of_is (word ∷ words) G rest g = refl
 
-pub first_is : (ps : List Part) (F : Option TokenKind → Type 0) (t : List Word) → F (lead t) → First ps F (lead (least_all ps ++ t))
+pub first_is : (ps : List Part) (F : Option TokenKind → Type 0) (t : List Word) → F (lead t)
+    → First ps F (lead (least_all ps ++ t))
 first_is [] F t f = f
 first_is (p ∷ ps) F t f =
     let first = first_of_is (least p) (First ps F) (least_all ps ++ t) (first_is ps F t f) in
@@ -197,12 +203,14 @@ stays_before (Some kind.Semicolon) i e = cc
 stays_before w i e = refl
 
 -- the shortest words of a part spell it
-pub completes : (rules : Rules) (p : Part) (i : Position) {t : List Word} → Given (need p) → i.words ≡ least p ++ t → Behind p (lead t)
+pub completes : (rules : Rules) (p : Part) (i : Position) {t : List Word} → Given (need p) → i.words ≡ least p ++ t
+    → Behind p (lead t)
     → (j : Position) × IsPart rules p i j × (j.words ≡ t)
 completes rules (part.word k) i g e b = (at.next i, takes_front i e, next_words i e)
 completes rules part.name i g e b = (at.next i, (at.name i, takes_front_name i e refl), next_words i e)
 completes rules (part.function_on line) i g e b = (at.next i, (sym (front_line i e), takes_front i e), next_words i e)
-completes rules part.semicolon i g e b = (i, record { taken = stays_before (at.kind i) i (ap ends_block (lead_is i e) ∙ b) }, e)
+completes rules part.semicolon i g e b =
+    (i, record { taken = stays_before (at.kind i) i (ap ends_block (lead_is i e) ∙ b) }, e)
 completes rules part.block_end i g e b = (i, (ap ends_block (lead_is i e) ∙ b, refl), e)
 completes rules (part.some c class.expression) i g e b = nil_expression i e b
 completes rules (part.some c (class.operand rank)) i g e b = nil_operand i rank g e b
@@ -211,7 +219,8 @@ completes rules (part.some c class.arguments) i g e b = text_arguments i e
 completes rules (part.some c class.list) i g e b = nil_list i e b
 completes rules (part.some c class.fields) i g e b = no_fields i e b
 completes rules (part.some c class.names) i g e b = one_name i e b
-completes rules (part.some c (class.function_body line method)) i g e b = least_function_body line method i (room rules g) e
+completes rules (part.some c (class.function_body line method)) i g e b =
+    least_function_body line method i (room rules g) e
 completes rules (part.some c class.block) i g e b = empty_block i e b
 completes rules (part.some c class.loop_block) i g e b = least_loop i (room rules g) e
 completes rules (part.some c class.branches) i g e b = no_branches i e (other kind.End kind.ElseIf (λ f. cc) _ b)
@@ -223,12 +232,14 @@ completes rules (part.some c class.path) i g e b = no_path i e b.0
 completes rules (part.some c class.values) i g e b = no_values i e (ends_with_no kind.Assign refl _ b)
 completes rules p i g e b = absurd g
 
-pub completed : (rules : Rules) (ps : List Part) (F : Option TokenKind → Type 0) (i : Position) (t : List Word) → AllMet ps → Fits ps F
-    → F (lead t) → i.words ≡ least_all ps ++ t → (j : Position) × IsRow rules ps i j × (j.words ≡ t)
+pub completed : (rules : Rules) (ps : List Part) (F : Option TokenKind → Type 0) (i : Position) (t : List Word)
+    → AllMet ps → Fits ps F
+    → F (lead t) → i.words ≡ least_all ps ++ t → (j : Position) × AreParts rules ps i j × (j.words ≡ t)
 completed rules [] F i t h f may e = (i, refl, e)
 completed rules (p ∷ ps) F i t h f may e =
     let (given, h') = met (need p) h in
     let (fits, f') = fit p ps F f in
-    let (j, x, e') = completes rules p i given (e ∙ append_assoc (least p) (least_all ps) t) (fits _ (first_is ps F t may)) in
+    let (j, x, e') = completes rules p i given (e ∙ append_assoc (least p) (least_all ps) t)
+    (fits _ (first_is ps F t may)) in
     let (k, xs, e'') = completed rules ps F j t h' f' may e' in
     (k, (j, x, xs), e'')

@@ -1,5 +1,6 @@
 -- Positions with other words at their end, and what may follow a thing.
-use Rattle.std.proofs.Common.{◌≡◌, ◌≢◌, ◌⊎◌, ℕ, suc, ◌-◌, ◌<◌, Bool, true, false, List, [], ◌∷◌, ◌++◌, length, take, Option, Some, None, option_and_then}
+use Rattle.std.proofs.Common.{◌≡◌, ◌≢◌, ◌⊎◌, ℕ, suc, ◌-◌, ◌<◌, Bool, true, false, List, [], ◌∷◌, ◌++◌, length, take}
+use Rattle.std.proofs.Common.{Option, Some, None, option_and_then}
 use Rattle.lua_lex.specs.declared.kinds.TokenKind.{TokenKind}
 use Rattle.lua_lex.specs.declared.kinds.TokenKind.TheVariants as kind
 use Rattle.lua_grammar.specs.declared.kinds.SyntaxKind.{SyntaxKind}
@@ -78,7 +79,8 @@ Follows (thing.target x) w = EndsOperand w
 abbrev pub MayFollow : Class → Option TokenKind → Type 0
 MayFollow k w = (x : Tree k) → Follows (thing_of k x) w
 
--- which words are seen of a text that stops at z, and by which rules they are read: those before the stop by every rule;
+-- which words are seen of a text that stops at z, and by which rules they are read: those before the stop by every
+-- rule;
 -- with the word at fault, by those whose kind of fault is looked for before the one at hand
 pub data Mode (f : SyntaxKind) (z : Position) : Rules → ℕ → Type 0 where
   before : Mode f z every_rule (length z.words)
@@ -104,15 +106,18 @@ EndsAs false e all = (IsName e × (all ≡ [])) ⊎ EndsInKey all
 
 -- the same of the front of a statement: it is known whether it goes on to a call
 abbrev pub SuffixesGoOn : Rules → Context → Bool → ℕ → Position → Type 0
-SuffixesGoOn rules c call n i = (t : List Word) → EndsOperand (lead t) → (more : List Word) × (all : List Suffix) × (j : Position)
+SuffixesGoOn rules c call n i = (t : List Word) → EndsOperand (lead t) → (more : List Word) × (all : List Suffix)
+    × (j : Position)
     × Spelled rules c (thing.suffixes all) (instead n (more ++ t) i) j × (j.words ≡ t) × EndIn call all
 
 abbrev pub ChainGoesOn : Rules → Context → Bool → ℕ → Position → Type 0
-ChainGoesOn rules c call n i = (t : List Word) → EndsOperand (lead t) → (more : List Word) × (e : Expr) × (all : List Suffix) × (j : Position)
+ChainGoesOn rules c call n i = (t : List Word) → EndsOperand (lead t)
+    → (more : List Word) × (e : Expr) × (all : List Suffix) × (j : Position)
     × Spelled rules c (thing.chain e all) (instead n (more ++ t) i) j × (j.words ≡ t) × EndsAs call e all
 
 abbrev pub OwnChainGoesOn : Rules → Context → Bool → ℕ → Position → Type 0
-OwnChainGoesOn rules c call n i = (t : List Word) → EndsOperand (lead t) → (more : List Word) × (e : Expr) × (all : List Suffix) × (j : Position)
+OwnChainGoesOn rules c call n i = (t : List Word) → EndsOperand (lead t)
+    → (more : List Word) × (e : Expr) × (all : List Suffix) × (j : Position)
     × Spelled rules c (thing.own_chain e all) (instead n (more ++ t) i) j × (j.words ≡ t) × EndsAs call e all
 
 -- what is shown of a class by induction

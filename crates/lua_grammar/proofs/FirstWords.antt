@@ -13,7 +13,7 @@ use Rattle.lua_grammar.specs.Things as thing
 use Rattle.lua_grammar.specs.Things.{Thing}
 use Rattle.lua_grammar.specs.Grammar as by
 use Rattle.lua_grammar.specs.Grammar.{Spelled}
-use Rattle.lua_grammar.specs.Rows.{begins_chain, begins_arguments, begins_last}
+use Rattle.lua_grammar.specs.Productions.{begins_chain, begins_arguments, begins_last}
 use Rattle.lua_grammar.specs.Stuck.{begins_deed}
 
 abbrev pub begins_names : Option TokenKind → Bool
@@ -63,16 +63,17 @@ begins (thing.last _) = begins_last
 begins (thing.last_deed _) = begins_last
 begins _ = anything
 
-signs_begin : (w : Option TokenKind) {by : Unary} → option_and_then unary_operator w ≡ Some by → begins_expression w ≡ true
+signs_begin : (w : Option TokenKind) {by : Unary} → option_and_then unary_operator w ≡ Some by
+    → begins_expression w ≡ true
 signs_begin (Some kind.Not) e = refl
 signs_begin (Some kind.Hash) e = refl
 signs_begin (Some kind.Minus) e = refl
 signs_begin w e = cc
 
-chains_begin : (w : Option TokenKind) → begins_chain w ≡ true → begins_expression w ≡ true
-chains_begin (Some kind.Name) e = refl
-chains_begin (Some kind.LeftParen) e = refl
-chains_begin w e = cc
+chains_begin_expressions : (w : Option TokenKind) → begins_chain w ≡ true → begins_expression w ≡ true
+chains_begin_expressions (Some kind.Name) e = refl
+chains_begin_expressions (Some kind.LeftParen) e = refl
+chains_begin_expressions w e = cc
 
 tables_begin : (w : Option TokenKind) → begins_table w ≡ true → begins_expression w ≡ true
 tables_begin (Some kind.LeftBrace) e = refl
@@ -93,10 +94,12 @@ arguments_begin (Some kind.LeftBrace) e = refl
 arguments_begin (Some kind.Text) e = refl
 arguments_begin w e = cc
 
-begun : (first : Option TokenKind → Bool) {i j : Position} → BeginsExpression i j → first (at.kind j) ≡ true → first (at.kind i) ≡ true
+begun : (first : Option TokenKind → Bool) {i j : Position} → BeginsExpression i j → first (at.kind j) ≡ true
+    → first (at.kind i) ≡ true
 begun first b e = subst (λ (p : Position). first (at.kind p) ≡ true) b.begun e
 
-pub first_word : {rules : Rules} {c : Context} {t : Thing} {i j : Position} → Spelled rules c t i j → begins t (at.kind i) ≡ true
+pub first_word : {rules : Rules} {c : Context} {t : Thing} {i j : Position} → Spelled rules c t i j
+    → begins t (at.kind i) ≡ true
 first_word (by.expression b x r) = begun begins_expression b (first_word x)
 first_word (by.operands le x ls) = first_word x
 first_word (by.unary s p r x) = signs_begin _ s
@@ -111,7 +114,7 @@ first_word (by.text t) = ap begins_expression t.seen
 first_word (by.varargs t k) = ap begins_expression t.seen
 first_word (by.function l t b) = ap begins_expression t.seen
 first_word (by.table x) = tables_begin _ (first_word x)
-first_word (by.prefix x) = chains_begin _ (first_word x)
+first_word (by.prefix x) = chains_begin_expressions _ (first_word x)
 first_word (by.chain x ss) = first_word x
 first_word (by.name t) = ap begins_chain t.seen
 first_word (by.parenthesis t r x u) = ap begins_chain t.seen
@@ -147,6 +150,6 @@ first_word (by.one_target x s) = first_word x
 first_word (by.more_targets x t xs) = first_word x
 first_word (by.own_chain b x r) = begun begins_chain b (first_word x)
 first_word (by.name_target x) = first_word x
-first_word (by.row_target ss x e) = first_word x
+first_word (by.index_target ss x e) = first_word x
 first_word (by.call_statement ss x e) = chain_deeds_begin _ (first_word x)
 first_word _ = refl

@@ -1,5 +1,6 @@
 -- The parts of what is spelled, chosen by the next words: one form for each thing at each first word.
-use Rattle.std.specs.Prelude.{◌≡◌, ◌≢◌, ◌⊎◌, ℕ, suc, ◌+◌, ◌≤◌, Bool, true, false, List, [], ◌∷◌, ◌++◌, Option, Some, None}
+use Rattle.std.specs.Prelude.{◌≡◌, ◌≢◌, ◌⊎◌, ℕ, suc, ◌+◌, ◌≤◌, Bool, true, false, List, [], ◌∷◌, ◌++◌, Option, Some}
+use Rattle.std.specs.Prelude.{None}
 use Rattle.lua_lex.specs.declared.kinds.TokenKind.{TokenKind}
 use Rattle.lua_lex.specs.declared.kinds.TokenKind.TheVariants as kind
 use Rattle.lua_grammar.specs.declared.kinds.SyntaxKind.TheVariants as fault
@@ -33,7 +34,7 @@ use Rattle.lua_grammar.specs.Things as thing
 use Rattle.lua_grammar.specs.Things.{Thing}
 use Rattle.lua_grammar.specs.Parts.{suffixed, row, link_of, stat_of, branch_of, IsReturn}
 use Rattle.lua_grammar.specs.Grammar.{Spelled}
-use Rattle.lua_grammar.specs.Rows.{begins_last}
+use Rattle.lua_grammar.specs.Productions.{begins_last}
 use Rattle.lua_grammar.specs.Stuck.{fresh, counted}
 
 -- the one where the word is of this kind, the other where it is not
@@ -47,7 +48,8 @@ abbrev pub behind_operator : Position → Position
 behind_operator i = at.next (record i { operators = suc i.operators })
 
 abbrev pub ExpressionForm : Rules → Context → Expr → Position → Position → Type 0
-ExpressionForm rules c e i z = (k : Position) × Spelled rules c (thing.operand 1 e) (fresh i) k × at.ResumesExpression i k z
+ExpressionForm rules c e i z = (k : Position) × Spelled rules c (thing.operand 1 e) (fresh i) k
+    × at.ResumesExpression i k z
 
 abbrev pub RowForm : Rules → Context → ℕ → Expr → Position → Position → Type 0
 RowForm rules c rank e i z = (first : Expr) × (links : List Link) × (k : Position) × (e ≡ row first links)
@@ -67,12 +69,14 @@ ExponentForm (Some by) rules c e i z = UnaryForm by rules c e i z
 ExponentForm None rules c e i z = Spelled rules c (thing.simple e) i z
 
 abbrev pub OperandForm : Rules → Context → ℕ → Expr → Position → Position → Type 0
-OperandForm rules c rank e i z = (rank ≤ 6 → RowForm rules c rank e i z) × (rank ≡ 7 → PowerForm (at.sign i) rules c e i z)
+OperandForm rules c rank e i z = (rank ≤ 6 → RowForm rules c rank e i z)
+    × (rank ≡ 7 → PowerForm (at.sign i) rules c e i z)
     × (rank ≡ 8 → ExponentForm (at.sign i) rules c e i z)
 
 abbrev pub LinksForm : Option Binary → Rules → Context → ℕ → List Link → Position → Position → Type 0
 LinksForm None rules c rank links i z = (links ≡ []) × (z ≡ i)
-LinksForm (Some by) rules c rank links i z = (e : Expr) × (rest : List Link) × (k : Position) × (links ≡ link_of by e ∷ rest)
+LinksForm (Some by) rules c rank links i z = (e : Expr) × (rest : List Link) × (k : Position)
+    × (links ≡ link_of by e ∷ rest)
     × IsShort rules i.operators × Spelled rules c (thing.operand (rank + 1) e) (behind_operator i) k
     × Spelled rules c (thing.links rank rest) k z
 
@@ -86,7 +90,8 @@ SimpleForm (Some kind.False) rules c e i z = (e ≡ expr.False) × (z ≡ at.nex
 SimpleForm (Some kind.True) rules c e i z = (e ≡ expr.True) × (z ≡ at.next i)
 SimpleForm (Some (kind.Number n)) rules c e i z = (e ≡ expr.Number n) × (z ≡ at.next i)
 SimpleForm (Some kind.Text) rules c e i z = (e ≡ expr.Text (at.name i).text) × (z ≡ at.next i)
-SimpleForm (Some kind.Dots) rules c e i z = (e ≡ expr.Varargs) × (z ≡ at.next i) × Kept (rules fault.NoVararg) (c.varargs ≡ true)
+SimpleForm (Some kind.Dots) rules c e i z = (e ≡ expr.Varargs) × (z ≡ at.next i)
+    × Kept (rules fault.NoVararg) (c.varargs ≡ true)
 SimpleForm (Some kind.Function) rules c e i z = (number : ℕ) × (e ≡ expr.Function number)
     × Spelled rules c (thing.function_body (at.line i) false number) (at.next i) z
 SimpleForm (Some kind.LeftBrace) rules c e i z = (fields : List Field) × (e ≡ expr.Table fields)
@@ -97,7 +102,8 @@ SimpleForm _ rules c e i z = ⊥
 
 abbrev pub HeadForm : Option TokenKind → Rules → Context → Expr → Position → Position → Type 0
 HeadForm (Some kind.Name) rules c e i z = (e ≡ expr.Name (at.name i)) × (z ≡ at.next i)
-HeadForm (Some kind.LeftParen) rules c e i z = (inside : Expr) × (k : Position) × (e ≡ expr.Paren inside) × HasRoom rules c
+HeadForm (Some kind.LeftParen) rules c e i z = (inside : Expr) × (k : Position) × (e ≡ expr.Paren inside)
+    × HasRoom rules c
     × Spelled rules (context.inner c) (thing.expression inside) (at.next i) k × Takes kind.RightParen k z
 HeadForm _ rules c e i z = ⊥
 
@@ -111,18 +117,24 @@ OwnChainForm rules c head suffixes i z = (k : Position) × Spelled rules c (thin
 
 abbrev pub SuffixesForm : Bool → Rules → Context → List Suffix → Position → Position → Type 0
 SuffixesForm false rules c suffixes i z = (suffixes ≡ []) × (z ≡ i)
-SuffixesForm true rules c suffixes i z = (suffix : Suffix) × (rest : List Suffix) × (k : Position) × (suffixes ≡ suffix ∷ rest)
-    × IsShort rules i.suffixes × Spelled rules c (thing.suffix suffix) (counted i) k × Spelled rules c (thing.suffixes rest) k z
+SuffixesForm true rules c suffixes i z = (suffix : Suffix) × (rest : List Suffix) × (k : Position)
+    × (suffixes ≡ suffix ∷ rest)
+    × IsShort rules i.suffixes × Spelled rules c (thing.suffix suffix) (counted i) k
+    × Spelled rules c (thing.suffixes rest) k z
 
 abbrev pub CallForm : Rules → Context → Suffix → Position → Position → Type 0
-CallForm rules c suffix i z = (es : List Expr) × (suffix ≡ suffix_of.Call (call_of.Plain es)) × Spelled rules c (thing.arguments es) i z
+CallForm rules c suffix i z = (es : List Expr) × (suffix ≡ suffix_of.Call (call_of.Plain es))
+    × Spelled rules c (thing.arguments es) i z
 
 abbrev pub SuffixForm : Option TokenKind → Rules → Context → Suffix → Position → Position → Type 0
-SuffixForm (Some kind.Dot) rules c suffix i z = (n : Name) × (suffix ≡ suffix_of.Key (key.Field n)) × TakesName n (at.next i) z
-SuffixForm (Some kind.LeftBracket) rules c suffix i z = (e : Expr) × (k : Position) × (suffix ≡ suffix_of.Key (key.Index e))
+SuffixForm (Some kind.Dot) rules c suffix i z = (n : Name) × (suffix ≡ suffix_of.Key (key.Field n))
+    × TakesName n (at.next i) z
+SuffixForm (Some kind.LeftBracket) rules c suffix i z = (e : Expr) × (k : Position)
+    × (suffix ≡ suffix_of.Key (key.Index e))
     × HasRoom rules c × Spelled rules (context.inner c) (thing.expression e) (at.next i) k × Takes kind.RightBracket k z
 SuffixForm (Some kind.Colon) rules c suffix i z = (n : Name) × (es : List Expr) × (k : Position)
-    × (suffix ≡ suffix_of.Call (call_of.Method n es)) × TakesName n (at.next i) k × Spelled rules c (thing.arguments es) k z
+    × (suffix ≡ suffix_of.Call (call_of.Method n es)) × TakesName n (at.next i) k
+    × Spelled rules c (thing.arguments es) k z
 SuffixForm (Some kind.LeftParen) rules c suffix i z = CallForm rules c suffix i z
 SuffixForm (Some kind.LeftBrace) rules c suffix i z = CallForm rules c suffix i z
 SuffixForm (Some kind.Text) rules c suffix i z = CallForm rules c suffix i z
@@ -141,7 +153,8 @@ ArgumentsForm _ rules c es i z = ⊥
 
 abbrev pub ListForm : Rules → Context → List Expr → Position → Position → Type 0
 ListForm rules c es i z = (e : Expr) × (k : Position) × Spelled rules c (thing.expression e) i k
-    × IfIs (at.kind k) kind.Comma ((rest : List Expr) × (es ≡ e ∷ rest) × Spelled rules c (thing.list rest) (at.next k) z)
+    × IfIs (at.kind k) kind.Comma ((rest : List Expr) × (es ≡ e ∷ rest)
+    × Spelled rules c (thing.list rest) (at.next k) z)
     ((es ≡ e ∷ []) × (z ≡ k))
 
 abbrev pub ConstructorForm : Rules → Context → List Field → Position → Position → Type 0
@@ -150,12 +163,14 @@ ConstructorForm rules c fields i z = (k : Position) × HasRoom rules c
 
 -- behind a field
 abbrev pub FieldsRest : Bool → Rules → Context → Field → List Field → Position → Position → Type 0
-FieldsRest true rules c f fields k z = (rest : List Field) × (fields ≡ f ∷ rest) × Spelled rules c (thing.fields rest) (at.next k) z
+FieldsRest true rules c f fields k z = (rest : List Field) × (fields ≡ f ∷ rest)
+    × Spelled rules c (thing.fields rest) (at.next k) z
 FieldsRest false rules c f fields k z = (fields ≡ f ∷ []) × (z ≡ k)
 
 abbrev pub FieldsForm : Rules → Context → List Field → Position → Position → Type 0
 FieldsForm rules c fields i z = IfIs (at.kind i) kind.RightBrace ((fields ≡ []) × (z ≡ i))
-    ((f : Field) × (k : Position) × Spelled rules c (thing.field f) i k × FieldsRest (at.is_separator (at.kind k)) rules c f fields k z)
+    ((f : Field) × (k : Position) × Spelled rules c (thing.field f) i k
+    × FieldsRest (at.is_separator (at.kind k)) rules c f fields k z)
 
 abbrev pub UnkeyedForm : Bool → Rules → Context → Field → Position → Position → Type 0
 UnkeyedForm true rules c f i z = (e : Expr) × (f ≡ field_of.Named (at.name i) e)
@@ -177,7 +192,8 @@ FunctionForm rules c line method number i z = (names : List Name) × (varargs : 
     × at.BeginsBody number i j × Takes kind.LeftParen j k × Spelled rules c (thing.parameters names varargs) k l
     × Takes kind.RightParen l m × HasRoom rules c × Spelled rules (context.function varargs c) (thing.block block) m n
     × Takes kind.End n o
-    × at.EndsBody number (record { line = line; method = method; parameters = names; varargs = varargs; block = block }) o z
+    × at.EndsBody number (record { line = line; method = method; parameters = names; varargs = varargs; block = block })
+    o z
 
 abbrev pub ParametersForm : Option TokenKind → Rules → Context → List Name → Bool → Position → Position → Type 0
 ParametersForm (Some kind.RightParen) rules c names varargs i z = (names ≡ []) × (varargs ≡ false) × (z ≡ i)
@@ -219,13 +235,15 @@ ReturnForm false rules c deed i z = (es : List Expr) × Spelled rules c (thing.l
 abbrev pub LastDeedForm : Option TokenKind → Rules → Context → Deed → Position → Position → Type 0
 LastDeedForm (Some kind.Break) rules c deed i z = (deed ≡ deed_of.Break) × (z ≡ at.next i)
     × Kept (rules fault.NoLoop) (c.in_loop ≡ true)
-LastDeedForm (Some kind.Return) rules c deed i z = ReturnForm (ends_return (at.kind (at.next i))) rules c deed (at.next i) z
+LastDeedForm (Some kind.Return) rules c deed i z =
+    ReturnForm (ends_return (at.kind (at.next i))) rules c deed (at.next i) z
 LastDeedForm _ rules c deed i z = ⊥
 
 -- ---- statements
 
 abbrev pub BranchForm : Rules → Context → Branch → Position → Position → Type 0
-BranchForm rules c branch i z = (e : Expr) × (block : List Stat) × (k : Position) × (l : Position) × (branch ≡ branch_of e block)
+BranchForm rules c branch i z = (e : Expr) × (block : List Stat) × (k : Position) × (l : Position)
+    × (branch ≡ branch_of e block)
     × Spelled rules c (thing.expression e) i k × Takes kind.Then k l × HasRoom rules c
     × Spelled rules (context.inner c) (thing.block block) l z
 
@@ -244,13 +262,15 @@ LoopBlockForm rules c block i z = (k : Position) × HasRoom rules c
     × Spelled rules (context.looped c) (thing.block block) (at.next i) k × Takes kind.End k z
 
 abbrev pub StepForm : Rules → Context → Option Expr → Position → Position → Type 0
-StepForm rules c step i z = IfIs (at.kind i) kind.Comma ((e : Expr) × (step ≡ Some e) × Spelled rules c (thing.expression e) (at.next i) z)
+StepForm rules c step i z = IfIs (at.kind i) kind.Comma
+    ((e : Expr) × (step ≡ Some e) × Spelled rules c (thing.expression e) (at.next i) z)
     ((step ≡ None) × (z ≡ i))
 
 abbrev pub ForRangeForm : Rules → Context → Deed → Position → Position → Type 0
 ForRangeForm rules c deed i z = IfIs (at.kind (at.next i)) kind.Assign
     ((begin : Expr) × (limit : Expr) × (step : Option Expr) × (block : List Stat)
-    × (l : Position) × (m : Position) × (n : Position) × (o : Position) × (deed ≡ deed_of.For (at.name i) begin limit step block)
+    × (l : Position) × (m : Position) × (n : Position) × (o : Position)
+    × (deed ≡ deed_of.For (at.name i) begin limit step block)
     × Spelled rules c (thing.expression begin) (at.next (at.next i)) l × Takes kind.Comma l m
     × Spelled rules c (thing.expression limit) m n × Spelled rules c (thing.step step) n o
     × Spelled rules c (thing.loop_block block) o z)
@@ -265,17 +285,19 @@ PathForm rules c path i z = IfIs (at.kind i) kind.Dot
     ((path ≡ []) × (z ≡ i))
 
 abbrev pub ValuesForm : Rules → Context → List Expr → Position → Position → Type 0
-ValuesForm rules c es i z = IfIs (at.kind i) kind.Assign (Spelled rules c (thing.list es) (at.next i) z) ((es ≡ []) × (z ≡ i))
+ValuesForm rules c es i z = IfIs (at.kind i) kind.Assign (Spelled rules c (thing.list es) (at.next i) z)
+    ((es ≡ []) × (z ≡ i))
 
 abbrev pub TargetForm : Rules → Context → Target → Position → Position → Type 0
 TargetForm rules c target i z = (head : Expr) × (all : List Suffix) × Spelled rules c (thing.own_chain head all) i z
     × (((n : Name) × (head ≡ expr.Name n) × (all ≡ []) × (target ≡ target_of.Name n))
     ⊎ ((suffixes : List Suffix) × (k : Key) × (all ≡ suffixes ++ suffix_of.Key k ∷ [])
-    × (target ≡ target_of.Row (suffixed head suffixes) k)))
+    × (target ≡ target_of.Index (suffixed head suffixes) k)))
 
 abbrev pub TargetsForm : Rules → Context → List Target → Position → Position → Type 0
 TargetsForm rules c targets i z = (target : Target) × (k : Position) × Spelled rules c (thing.target target) i k
-    × IfIs (at.kind k) kind.Comma ((rest : List Target) × (targets ≡ target ∷ rest) × Spelled rules c (thing.targets rest) (at.next k) z)
+    × IfIs (at.kind k) kind.Comma ((rest : List Target) × (targets ≡ target ∷ rest)
+    × Spelled rules c (thing.targets rest) (at.next k) z)
     ((targets ≡ target ∷ []) × (z ≡ k))
 
 -- an assignment, or a call
@@ -283,16 +305,20 @@ abbrev pub ChainDeedForm : Rules → Context → Deed → Position → Position 
 ChainDeedForm rules c deed i z =
     ((targets : List Target) × (es : List Expr) × (k : Position) × (l : Position) × (deed ≡ deed_of.Assign targets es)
     × Spelled rules c (thing.targets targets) i k × Takes kind.Assign k l × Spelled rules c (thing.list es) l z)
-    ⊎ ((head : Expr) × (all : List Suffix) × (suffixes : List Suffix) × (how : Call) × (deed ≡ deed_of.Call (suffixed head suffixes) how)
+    ⊎ ((head : Expr) × (all : List Suffix) × (suffixes : List Suffix) × (how : Call)
+    × (deed ≡ deed_of.Call (suffixed head suffixes) how)
     × Spelled rules c (thing.own_chain head all) i z × (all ≡ suffixes ++ suffix_of.Call how ∷ []))
 
 abbrev pub DeedForm : Option TokenKind → Rules → Context → Deed → Position → Position → Type 0
-DeedForm (Some kind.Do) rules c deed i z = (block : List Stat) × (k : Position) × (deed ≡ deed_of.Do block) × HasRoom rules c
+DeedForm (Some kind.Do) rules c deed i z = (block : List Stat) × (k : Position) × (deed ≡ deed_of.Do block)
+    × HasRoom rules c
     × Spelled rules (context.inner c) (thing.block block) (at.next i) k × Takes kind.End k z
-DeedForm (Some kind.While) rules c deed i z = (e : Expr) × (block : List Stat) × (k : Position) × (deed ≡ deed_of.While e block)
+DeedForm (Some kind.While) rules c deed i z = (e : Expr) × (block : List Stat) × (k : Position)
+    × (deed ≡ deed_of.While e block)
     × Spelled rules c (thing.expression e) (at.next i) k × Spelled rules c (thing.loop_block block) k z
 DeedForm (Some kind.Repeat) rules c deed i z = (block : List Stat) × (e : Expr) × (k : Position) × (l : Position)
-    × (deed ≡ deed_of.Repeat block e) × HasRoom rules c × Spelled rules (context.looped c) (thing.block block) (at.next i) k
+    × (deed ≡ deed_of.Repeat block e) × HasRoom rules c × Spelled rules (context.looped c) (thing.block block)
+    (at.next i) k
     × Takes kind.Until k l × Spelled rules c (thing.expression e) l z
 DeedForm (Some kind.If) rules c deed i z = (branch : Branch) × (branches : List Branch) × (block : List Stat)
     × (k : Position) × (l : Position) × (m : Position) × (deed ≡ deed_of.If (branch ∷ branches) block)
@@ -308,7 +334,8 @@ DeedForm (Some kind.Function) rules c deed i z = (name : Name) × (path : List N
     × Spelled rules c (thing.function_body (at.line i) false number) l z)
 DeedForm (Some kind.Local) rules c deed i z = IfIs (at.kind (at.next i)) kind.Function
     ((name : Name) × (number : ℕ) × (k : Position) × (deed ≡ deed_of.LocalFunction name number)
-    × TakesName name (at.next (at.next i)) k × Spelled rules c (thing.function_body (at.line (at.next i)) false number) k z)
+    × TakesName name (at.next (at.next i)) k × Spelled rules c (thing.function_body (at.line (at.next i)) false number)
+    k z)
     ((names : List Name) × (es : List Expr) × (k : Position) × (deed ≡ deed_of.Local names es)
     × Spelled rules c (thing.names names) (at.next i) k × Spelled rules c (thing.values es) k z)
 DeedForm (Some kind.Name) rules c deed i z = ChainDeedForm rules c deed i z

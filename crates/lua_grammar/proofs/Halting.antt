@@ -26,7 +26,8 @@ use Rattle.lua_grammar.proofs.AtEnd.{unexpected_end}
 use Rattle.lua_grammar.proofs.Exact.{IsHopeless, IsHopeful, line_or, stops}
 
 -- a word that ends the block of the main text is behind no text
-no_more : (words : List Word) (block : List Stat) (z : Position) → Spelled every_rule main_text (thing.block block) (start words) z
+no_more : (words : List Word) (block : List Stat) (z : Position)
+    → Spelled every_rule main_text (thing.block block) (start words) z
     → IsSome (at.kind z) → IsHopeless fault.Unexpected words z
 no_more words block z x some n more shown other j y whole =
     let end : j ≡ instead n more z = again class.block block x shown (other, y) in
@@ -34,13 +35,18 @@ no_more words block z x some n more shown other j y whole =
     let same : at.kind j ≡ at.kind z = ap at.kind end ∙ kind_shown z shown in
     cc (none, same, some)
 
-goes_before : (words : List Word) (block : List Stat) (z : Position) → Spelled every_rule main_text (thing.block block) (start words) z
+goes_before : (words : List Word) (block : List Stat) (z : Position)
+    → Spelled every_rule main_text (thing.block block) (start words) z
     → IsHopeful fault.Unexpected words z
 goes_before words block z x rules n before less = λ t follows.
     let put : (instead (length z.words) t z).words ≡ t = words_from z refl in (
       [],
       instead (length z.words) t z,
-      (block, carry x every_rule (length z.words) t (omega arith) (inr (ap (λ l. ends_block (lead l)) put ∙ follows block))),
+      (
+        block,
+        carry x every_rule (length z.words) t (omega arith)
+            (inr (ap (λ l. ends_block (lead l)) put ∙ follows block)),
+      ),
       put,
     )
 goes_before words block z x rules n (with_word e behind) less = absurd (cc e)
@@ -48,7 +54,8 @@ goes_before words block z x rules n (with_word e behind) less = absurd (cc e)
 pub halts_at : {f : SyntaxKind} (z : Position) (words : List Word) (last_line : ℕ) → Halts f (start words) z
     → StopsAt words last_line (line_or last_line z.words) f
 halts_at z words last_line (behind_block {block = block} x some) =
-    stops fault.Unexpected words z last_line (goes x) (no_more words block z x some) (goes_before words block z x) (λ e. refl)
+    stops fault.Unexpected words z last_line (goes x) (no_more words block z x some) (goes_before words block z x)
+    (λ e. refl)
 halts_at {f} z words last_line (in_block s) =
     stops f words z last_line (stuck_goes s) (λ n more shown block j x whole. never s shown (block, x))
     (λ rules n mode less. goes_on s mode less) (λ e. unexpected_end s (ap (λ l. at.kind_of (at.first_of l)) e))

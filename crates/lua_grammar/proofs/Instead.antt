@@ -1,5 +1,6 @@
 -- Positions with other words at their end: what stays at them, and the steps between them.
-use Rattle.std.proofs.Common.{◌≡◌, ◌≢◌, ◌⊎◌, inl, inr, ℕ, suc, ◌-◌, ◌<◌, ◌≤◌, List, [], ◌∷◌, ◌++◌, length, take, Option, Some, IsSome, is_some, option_and_then, refl, sym, ap, ◌∙◌, subst, arith}
+use Rattle.std.proofs.Common.{◌≡◌, ◌≢◌, ◌⊎◌, inl, inr, ℕ, suc, ◌-◌, ◌<◌, ◌≤◌, List, [], ◌∷◌, ◌++◌, length, take, Option}
+use Rattle.std.proofs.Common.{Some, IsSome, is_some, option_and_then, refl, sym, ap, ◌∙◌, subst, arith}
 use Rattle.std.proofs.lemmas.List.{append-nil}
 use Rattle.std.proofs.Math.Seq.{take-length}
 use Rattle.lua_lex.specs.declared.kinds.TokenKind.{TokenKind}
@@ -44,7 +45,8 @@ words_from {n} {words} j e = swapped_all n words j.words e
 
 -- ---- the next word stays
 
-pub shown_before : (i z : Position) {n : ℕ} {words : List Word} → length z.words ≤ length i.words → Shown z n words → Shown i n words
+pub shown_before : (i z : Position) {n : ℕ} {words : List Word} → length z.words ≤ length i.words → Shown z n words
+    → Shown i n words
 shown_before i z {n} h (inl less) = inl (omega (arith, h, less))
 shown_before i z h (inr end) = inr end
 
@@ -77,9 +79,11 @@ joint_shown rank i s = ap (λ w. at.of_rank rank (option_and_then binary_operato
 behind_shown : (n : ℕ) (words : List Word) (i : Position) (all : List Word) → n < length all
     → at.behind (instead n words i) (swapped n words all) ≡ instead n words (at.behind i all)
 behind_shown n words i [] h = absurd (omega (arith, h))
-behind_shown n words i (word ∷ all) h = ap (at.behind (instead n words i)) (swapped_more n words word all (omega (arith, h)))
+behind_shown n words i (word ∷ all) h = ap (at.behind (instead n words i))
+    (swapped_more n words word all (omega (arith, h)))
 
-pub next_shown : (n : ℕ) (words : List Word) (i : Position) → n < length i.words → at.next (instead n words i) ≡ instead n words (at.next i)
+pub next_shown : (n : ℕ) (words : List Word) (i : Position) → n < length i.words
+    → at.next (instead n words i) ≡ instead n words (at.next i)
 next_shown n words i h = behind_shown n words i i.words h
 
 next_length : (i : Position) {n : ℕ} (all : List Word) → suc n ≡ length all → n ≡ length (at.behind i all).words
@@ -87,23 +91,28 @@ next_length i [] e = absurd (omega (arith, e))
 next_length i (word ∷ all) e = omega (arith, e)
 
 -- behind the last word of `i` that is left
-pub behind_word : (n : ℕ) (words : List Word) (i : Position) → suc n ≡ length i.words → (at.next (instead n words i)).words ≡ words
+pub behind_word : (n : ℕ) (words : List Word) (i : Position) → suc n ≡ length i.words
+    → (at.next (instead n words i)).words ≡ words
 behind_word n words i e =
-    ap (λ (p : Position). p.words) (next_shown n words i (omega (arith, e))) ∙ words_from (at.next i) (next_length i i.words e)
+    ap (λ (p : Position). p.words) (next_shown n words i (omega (arith, e)))
+    ∙ words_from (at.next i) (next_length i i.words e)
 
-pub shown_next : (i : Position) {n : ℕ} {words : List Word} → Shown i n words → at.next (instead n words i) ≡ instead n words (at.next i)
+pub shown_next : (i : Position) {n : ℕ} {words : List Word} → Shown i n words
+    → at.next (instead n words i) ≡ instead n words (at.next i)
 shown_next i {n} {words} (inl less) = next_shown n words i less
 shown_next i {n} {words} (inr (e, e')) = rw e (rw e' (ap at.next (instead_none i) ∙ sym (instead_none (at.next i))))
 
 -- ---- steps
 
 -- a step over a word that is there
-behind_less : (i : Position) (all : List Word) (n : ℕ) → IsSome (at.kind_of (at.first_of all)) → n ≤ length (at.behind i all).words
+behind_less : (i : Position) (all : List Word) (n : ℕ) → IsSome (at.kind_of (at.first_of all))
+    → n ≤ length (at.behind i all).words
     → n < length all
 behind_less i [] n s h = absurd (cc)
 behind_less i (word ∷ all) n s h = omega (arith, h)
 
-pub step_less : (i : Position) {j : Position} {n : ℕ} → IsSome (at.kind i) → j ≡ at.next i → n ≤ length j.words → n < length i.words
+pub step_less : (i : Position) {j : Position} {n : ℕ} → IsSome (at.kind i) → j ≡ at.next i → n ≤ length j.words
+    → n < length i.words
 step_less i {j} {n} s e h = behind_less i i.words n s (subst (λ (p : Position). n ≤ length p.words) e h)
 
 some_kind : {w : Option TokenKind} {k : TokenKind} → w ≡ Some k → IsSome w
@@ -139,7 +148,11 @@ pub name_instead : {name : Name} {i j : Position} (n : ℕ) (words : List Word) 
     → TakesName name (instead n words i) (instead n words j)
 name_instead {i = i} {j} n words t h =
     let less : n < length i.words = name_less t h in
-    record { seen = kind_shown i (inl less) ∙ t.seen; name_is = t.name_is ∙ sym (name_shown i (inl less)); taken = stepped i j n words t.taken less }
+    record {
+      seen = kind_shown i (inl less) ∙ t.seen;
+      name_is = t.name_is ∙ sym (name_shown i (inl less));
+      taken = stepped i j n words t.taken less;
+    }
 
 pub text_instead : {number : ℕ} {i j : Position} (n : ℕ) (words : List Word) → TakesText number i j → n ≤ length j.words
     → TakesText number (instead n words i) (instead n words j)
@@ -151,7 +164,8 @@ text_instead {i = i} {j} n words t h =
       taken = stepped i j n words t.taken less;
     }
 
-some_instead : (i : Position) (n : ℕ) (words : List Word) → n < length i.words → IsSome (at.kind i) → IsSome (at.kind (instead n words i))
+some_instead : (i : Position) (n : ℕ) (words : List Word) → n < length i.words → IsSome (at.kind i)
+    → IsSome (at.kind (instead n words i))
 some_instead i n words less s = ap is_some (kind_shown i (inl less)) ∙ s
 
 pub passes_instead : {i j : Position} (n : ℕ) (words : List Word) → Passes i j → n ≤ length j.words
@@ -164,14 +178,19 @@ pub operator_instead : {i j : Position} (n : ℕ) (words : List Word) → at.Pas
     → at.PassesOperator (instead n words i) (instead n words j)
 operator_instead {i} {j} n words p h =
     let less : n < length i.words = operator_less p h in
-    record { some = some_instead i n words less p.some; taken = stepped (record i { operators = suc i.operators }) j n words p.taken less }
+    record {
+      some = some_instead i n words less p.some;
+      taken = stepped (record i { operators = suc i.operators }) j n
+          words p.taken less;
+    }
 
 pub near_instead : (i : Position) {n : ℕ} {words : List Word} → Shown i n words → IsNear i → IsNear (instead n words i)
 near_instead i s near = line_shown i s ∙ near
 
 -- steps over no word
 
-pub counts_instead : {i j : Position} (n : ℕ) (words : List Word) → at.CountsSuffix i j → at.CountsSuffix (instead n words i) (instead n words j)
+pub counts_instead : {i j : Position} (n : ℕ) (words : List Word) → at.CountsSuffix i j
+    → at.CountsSuffix (instead n words i) (instead n words j)
 counts_instead n words x = record { counted = ap (instead n words) x.counted }
 
 pub begins_instead : {i j : Position} (n : ℕ) (words : List Word) → at.BeginsExpression i j
@@ -199,8 +218,10 @@ no_semicolon w i n = refl
 abbrev pub StaysOr : Position → Position → TokenKind → Type 0
 StaysOr i j k = (at.kind i ≡ at.kind j) ⊎ (at.kind i ≢ Some k)
 
-semicolon_by : (w : Option TokenKind) (i j : Position) (n : ℕ) (words : List Word) → at.kind i ≡ w → j ≡ at.behind_semicolon w i
-    → n ≤ length j.words → StaysOr (instead n words j) j mark.Semicolon → at.PassesSemicolon (instead n words i) (instead n words j)
+semicolon_by : (w : Option TokenKind) (i j : Position) (n : ℕ) (words : List Word) → at.kind i ≡ w
+    → j ≡ at.behind_semicolon w i
+    → n ≤ length j.words → StaysOr (instead n words j) j mark.Semicolon
+    → at.PassesSemicolon (instead n words i) (instead n words j)
 semicolon_by (Some mark.Semicolon) i j n words e taken h s =
     let less : n < length i.words = step_less i (some_kind e) taken h in
     let seen : at.kind (instead n words i) ≡ Some mark.Semicolon = kind_shown i (inl less) ∙ e in
@@ -208,8 +229,12 @@ semicolon_by (Some mark.Semicolon) i j n words e taken h s =
 semicolon_by w i j n words e taken h s =
     let unseen : at.kind (instead n words j) ≢ Some mark.Semicolon = λ f. not_now s (λ g. cc) f in
     let same : instead n words j ≡ instead n words i = ap (instead n words) taken in
-    record { taken = same ∙ sym (no_semicolon (at.kind (instead n words i)) (instead n words i) (λ f. unseen (ap at.kind same ∙ f))) } where
-      not_now : StaysOr (instead n words j) j mark.Semicolon → at.kind j ≢ Some mark.Semicolon → at.kind (instead n words j) ≢ Some mark.Semicolon
+    record {
+      taken = same ∙ sym (no_semicolon (at.kind (instead n words i)) (instead n words i)
+          (λ f. unseen (ap at.kind same ∙ f)));
+    } where
+      not_now : StaysOr (instead n words j) j mark.Semicolon → at.kind j ≢ Some mark.Semicolon
+          → at.kind (instead n words j) ≢ Some mark.Semicolon
       not_now (inl same) n f = n (sym same ∙ f)
       not_now (inr unseen) n f = unseen f
 

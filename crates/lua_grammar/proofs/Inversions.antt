@@ -1,5 +1,6 @@
 -- What is spelled has the parts that its next words call for.
-use Rattle.std.proofs.Common.{◌≡◌, ◌≢◌, inl, inr, ℕ, Bool, true, false, List, [], ◌∷◌, Option, Some, None, refl, sym, ap, ◌∙◌, subst, subst₂, arith}
+use Rattle.std.proofs.Common.{◌≡◌, ◌≢◌, inl, inr, ℕ, Bool, true, false, List, [], ◌∷◌, Option, Some, None, refl, sym}
+use Rattle.std.proofs.Common.{ap, ◌∙◌, subst, subst₂, arith}
 use Rattle.lua_lex.specs.declared.kinds.TokenKind.{TokenKind}
 use Rattle.lua_lex.specs.declared.kinds.TokenKind.TheVariants as kind
 use Rattle.lua_grammar.specs.declared.context.Context.{Context}
@@ -24,19 +25,25 @@ use Rattle.lua_grammar.specs.Things.{Thing}
 use Rattle.lua_grammar.specs.Parts.{stat_of}
 use Rattle.lua_grammar.specs.Grammar as by
 use Rattle.lua_grammar.specs.Grammar.{Spelled}
-use Rattle.lua_grammar.specs.Rows.{begins_chain, begins_arguments, begins_last}
+use Rattle.lua_grammar.specs.Productions.{begins_chain, begins_arguments, begins_last}
 use Rattle.lua_grammar.specs.Stuck.{begins_deed}
 use Rattle.lua_grammar.proofs.FirstWords.{first_word, begins_names, begins_table, begins_expression}
-use Rattle.lua_grammar.proofs.Forms.{IfIs, PowerForm, ExponentForm, LinksForm, PrefixForm, SimpleForm, HeadForm, SuffixesForm, CallForm, SuffixForm, ArgumentsForm, FieldsRest, UnkeyedForm, ParametersForm, NamesForm, BlockForm, ReturnForm, LastDeedForm, ChainDeedForm, DeedForm, Form}
+use Rattle.lua_grammar.proofs.Forms.{IfIs, PowerForm, ExponentForm, LinksForm, PrefixForm, SimpleForm, HeadForm}
+use Rattle.lua_grammar.proofs.Forms.{SuffixesForm, CallForm, SuffixForm, ArgumentsForm, FieldsRest, UnkeyedForm}
+use Rattle.lua_grammar.proofs.Forms.{ParametersForm, NamesForm, BlockForm, ReturnForm, LastDeedForm, ChainDeedForm}
+use Rattle.lua_grammar.proofs.Forms.{DeedForm, Form}
 
 -- ---- what is said of one position, at an equal one
 
-pub moved : {rules : Rules} {c : Context} {t : Thing} {i j z : Position} → j ≡ i → Spelled rules c t j z → Spelled rules c t i z
+pub moved : {rules : Rules} {c : Context} {t : Thing} {i j z : Position} → j ≡ i → Spelled rules c t j z
+    → Spelled rules c t i z
 moved {rules} {c} {t} {z = z} e x = subst (λ (p : Position). Spelled rules c t p z) e x
 
 pub on_line : {rules : Rules} {c : Context} {line line' number : ℕ} {method : Bool} {i z : Position} → line ≡ line'
-    → Spelled rules c (thing.function_body line method number) i z → Spelled rules c (thing.function_body line' method number) i z
-on_line {rules} {c} {number = number} {method} {i} {z} e x = subst (λ (n : ℕ). Spelled rules c (thing.function_body n method number) i z) e x
+    → Spelled rules c (thing.function_body line method number) i z
+    → Spelled rules c (thing.function_body line' method number) i z
+on_line {rules} {c} {number = number} {method} {i} {z} e x =
+    subst (λ (n : ℕ). Spelled rules c (thing.function_body n method number) i z) e x
 
 pub takes_at : {k : TokenKind} {i j z : Position} → j ≡ i → Takes k j z → Takes k i z
 takes_at {k} {z = z} e t = subst (λ (p : Position). Takes k p z) e t
@@ -59,7 +66,8 @@ pub sees_not : {w : Option TokenKind} {k : TokenKind} {A B : Type 0} → w ≢ S
 sees_not n b = (λ s. absurd (n s), λ _. b)
 
 -- a word with which the thing does not begin
-pub not_first : (first : Option TokenKind → Bool) {v w : Option TokenKind} → first w ≡ true → first v ≡ false → w ≡ v → ⊥
+pub not_first : (first : Option TokenKind → Bool) {v w : Option TokenKind} → first w ≡ true → first v ≡ false → w ≡ v
+    → ⊥
 not_first first h n e = cc (ap first e)
 
 pub table_word : (w : Option TokenKind) → begins_table w ≡ true → w ≡ Some kind.LeftBrace
@@ -93,7 +101,8 @@ simple_prefix (Some kind.Name) h p = p
 simple_prefix (Some kind.LeftParen) h p = p
 simple_prefix w h p = cc
 
-suffix_call : {rules : Rules} {c : Context} {suffix : Suffix} {i z : Position} (w : Option TokenKind) → begins_arguments w ≡ true
+suffix_call : {rules : Rules} {c : Context} {suffix : Suffix} {i z : Position} (w : Option TokenKind)
+    → begins_arguments w ≡ true
     → CallForm rules c suffix i z → SuffixForm w rules c suffix i z
 suffix_call (Some kind.LeftParen) h p = p
 suffix_call (Some kind.LeftBrace) h p = p
@@ -107,7 +116,8 @@ deed_chain (Some kind.LeftParen) h p = p
 deed_chain w h p = cc
 
 -- behind the first of the names of a `for .. in` stands a `,` or the `in`
-pub no_assignment : {rules : Rules} {c : Context} {names : List Name} (i : Position) {j k : Position} → NamesForm rules c names i j
+pub no_assignment : {rules : Rules} {c : Context} {names : List Name} (i : Position) {j k : Position}
+    → NamesForm rules c names i j
     → Takes kind.In j k → SeesNot kind.Assign (at.next i)
 no_assignment i f t s =
     let unseen : SeesNot kind.Comma (at.next i) = λ e. cc in
@@ -115,14 +125,23 @@ no_assignment i f t s =
     cc (ap at.kind end, t.seen)
 
 pub names_it : (i : Position) → Sees kind.Name i → Sees kind.Assign (at.next i) → at.names_field i ≡ true
-names_it i s t = ap (λ (w : Option TokenKind). at.is_named w (at.kind (at.next i))) s ∙ ap (at.is_named (Some kind.Name)) t
+names_it i s t = ap (λ (w : Option TokenKind). at.is_named w (at.kind (at.next i))) s
+    ∙ ap (at.is_named (Some kind.Name)) t
 
 pub form : {rules : Rules} {c : Context} {t : Thing} {i z : Position} → Spelled rules c t i z → Form rules c t i z
 form (by.expression b x r) = (_, moved b.begun x, r)
 form (by.operands le x ls) = (λ h. (_, _, _, refl, x, ls), λ h. absurd (omega arith), λ h. absurd (omega arith))
-form (by.unary s p r x) = (λ h. absurd (omega arith), λ h. rw s (_, refl, r, moved p.taken x), λ h. absurd (omega arith))
+form (by.unary s p r x) = (
+  λ h. absurd (omega arith),
+  λ h. rw s (_, refl, r, moved p.taken x),
+  λ h. absurd (omega arith),
+)
 form (by.power s x ls) = (λ h. absurd (omega arith), λ h. rw s (_, _, _, refl, x, ls), λ h. absurd (omega arith))
-form (by.unary_exponent s p r x) = (λ h. absurd (omega arith), λ h. absurd (omega arith), λ h. rw s (_, refl, r, moved p.taken x))
+form (by.unary_exponent s p r x) = (
+  λ h. absurd (omega arith),
+  λ h. absurd (omega arith),
+  λ h. rw s (_, refl, r, moved p.taken x),
+)
 form (by.exponent s x) = (λ h. absurd (omega arith), λ h. absurd (omega arith), λ h. rw s x)
 form (by.no_links e) = rw e (refl, refl)
 form (by.more_links e s p x xs) = rw e (_, _, _, refl, s, moved p.taken x, xs)
@@ -194,12 +213,28 @@ form (by.else_block t r x) = sees t.seen (r, moved t.taken x)
 form (by.for_loop t x) = rw t.seen (moved t.taken x)
 form (by.numeric_for {begin = begin} {limit = limit} {step = step} {block = block} t u x v y s b) =
     let u' = takes_at t.taken u in
-    sees u'.seen (_, _, _, _, _, _, _, _, ap (λ (n : Name). deed_of.For n begin limit step block) t.name_is, moved u'.taken x, v, y, s, b)
+    sees u'.seen (
+      _,
+      _,
+      _,
+      _,
+      _,
+      _,
+      _,
+      _,
+      ap (λ (n : Name). deed_of.For n begin limit step block) t.name_is,
+      moved u'.taken x,
+      v,
+      y,
+      s,
+      b,
+    )
 form (by.no_step n) = sees_not n (refl, refl)
 form (by.step t x) = sees t.seen (_, refl, moved t.taken x)
 form (by.generic_for x t y b) = sees_not (no_assignment _ (form x) t) (_, _, _, _, _, _, refl, x, t, y, b)
 form (by.loop_block t r x u) = (_, r, moved t.taken x, u)
-form (by.function_statement l t n p s x) = rw t.seen (_, _, _, _, name_at t.taken n, p, sees_not s (_, refl, on_line l x))
+form (by.function_statement l t n p s x) =
+    rw t.seen (_, _, _, _, name_at t.taken n, p, sees_not s (_, refl, on_line l x))
 form (by.method_statement l t n p u m x) =
     rw t.seen (_, _, _, _, name_at t.taken n, p, sees u.seen (_, _, _, refl, name_at u.taken m, on_line l x))
 form (by.no_path n) = sees_not n (refl, refl)
@@ -221,7 +256,7 @@ form (by.one_target x n) = (_, _, x, sees_not n (refl, refl))
 form (by.more_targets x t xs) = (_, _, x, sees t.seen (_, refl, moved t.taken xs))
 form (by.own_chain b x r) = (_, moved b.begun x, r)
 form (by.name_target x) = (_, _, x, inl (_, refl, refl, refl))
-form (by.row_target ss x e) = (_, _, x, inr (ss, _, e, refl))
+form (by.index_target ss x e) = (_, _, x, inr (ss, _, e, refl))
 form (by.call_statement ss x e) = deed_chain _ (first_word x) (inr (_, _, ss, _, refl, x, e))
 
 -- ---- the parts, where the next word is known
@@ -234,9 +269,11 @@ pub exponent_at : {rules : Rules} {c : Context} {e : Expr} {i z : Position} {w :
     → Spelled rules c (thing.operand 8 e) i z → ExponentForm w rules c e i z
 exponent_at {rules} {c} {e} {i} {z} s x = subst (λ (w : Option Unary). ExponentForm w rules c e i z) s ((form x).2 refl)
 
-pub links_at : {rules : Rules} {c : Context} {rank : ℕ} {links : List Link} {i z : Position} {w : Option Binary} → at.joint rank i ≡ w
+pub links_at : {rules : Rules} {c : Context} {rank : ℕ} {links : List Link} {i z : Position} {w : Option Binary}
+    → at.joint rank i ≡ w
     → Spelled rules c (thing.links rank links) i z → LinksForm w rules c rank links i z
-links_at {rules} {c} {rank} {links} {i} {z} s x = subst (λ (w : Option Binary). LinksForm w rules c rank links i z) s (form x)
+links_at {rules} {c} {rank} {links} {i} {z} s x =
+    subst (λ (w : Option Binary). LinksForm w rules c rank links i z) s (form x)
 
 pub simple_at : {rules : Rules} {c : Context} {e : Expr} {i z : Position} {w : Option TokenKind} → at.kind i ≡ w
     → Spelled rules c (thing.simple e) i z → SimpleForm w rules c e i z
@@ -256,15 +293,18 @@ pub head_at : {rules : Rules} {c : Context} {e : Expr} {i z : Position} {w : Opt
     → Spelled rules c (thing.head e) i z → HeadForm w rules c e i z
 head_at {rules} {c} {e} {i} {z} s x = subst (λ (w : Option TokenKind). HeadForm w rules c e i z) s (form x)
 
-pub suffixes_at : {rules : Rules} {c : Context} {suffixes : List Suffix} {i z : Position} {b : Bool} → begins_suffix (at.kind i) ≡ b
+pub suffixes_at : {rules : Rules} {c : Context} {suffixes : List Suffix} {i z : Position} {b : Bool}
+    → begins_suffix (at.kind i) ≡ b
     → Spelled rules c (thing.suffixes suffixes) i z → SuffixesForm b rules c suffixes i z
 suffixes_at {rules} {c} {suffixes} {i} {z} s x = subst (λ (b : Bool). SuffixesForm b rules c suffixes i z) s (form x)
 
 pub suffix_at : {rules : Rules} {c : Context} {suffix : Suffix} {i z : Position} {w : Option TokenKind} → at.kind i ≡ w
     → Spelled rules c (thing.suffix suffix) i z → SuffixForm w rules c suffix i z
-suffix_at {rules} {c} {suffix} {i} {z} s x = subst (λ (w : Option TokenKind). SuffixForm w rules c suffix i z) s (form x)
+suffix_at {rules} {c} {suffix} {i} {z} s x =
+    subst (λ (w : Option TokenKind). SuffixForm w rules c suffix i z) s (form x)
 
-call_of_suffix : {rules : Rules} {c : Context} {suffix : Suffix} {i z : Position} (w : Option TokenKind) → begins_arguments w ≡ true
+call_of_suffix : {rules : Rules} {c : Context} {suffix : Suffix} {i z : Position} (w : Option TokenKind)
+    → begins_arguments w ≡ true
     → SuffixForm w rules c suffix i z → CallForm rules c suffix i z
 call_of_suffix (Some kind.LeftParen) h p = p
 call_of_suffix (Some kind.LeftBrace) h p = p
@@ -275,42 +315,52 @@ pub call_at : {rules : Rules} {c : Context} {suffix : Suffix} {i z : Position} �
     → Spelled rules c (thing.suffix suffix) i z → CallForm rules c suffix i z
 call_at h x = call_of_suffix _ h (form x)
 
-pub arguments_at : {rules : Rules} {c : Context} {es : List Expr} {i z : Position} {w : Option TokenKind} → at.kind i ≡ w
+pub arguments_at : {rules : Rules} {c : Context} {es : List Expr} {i z : Position} {w : Option TokenKind}
+    → at.kind i ≡ w
     → Spelled rules c (thing.arguments es) i z → ArgumentsForm w rules c es i z
 arguments_at {rules} {c} {es} {i} {z} s x = subst (λ (w : Option TokenKind). ArgumentsForm w rules c es i z) s (form x)
 
-pub rest_at : (rules : Rules) (c : Context) (f : Field) (fields : List Field) (z : Position) {j k : Position} {b : Bool} → j ≡ k
-    → at.is_separator (at.kind j) ≡ b → FieldsRest (at.is_separator (at.kind k)) rules c f fields k z → FieldsRest b rules c f fields k z
+pub rest_at : (rules : Rules) (c : Context) (f : Field) (fields : List Field) (z : Position) {j k : Position} {b : Bool}
+    → j ≡ k
+    → at.is_separator (at.kind j) ≡ b → FieldsRest (at.is_separator (at.kind k)) rules c f fields k z
+    → FieldsRest b rules c f fields k z
 rest_at rules c f fields z {k = k} to e rest =
     let s = ap (λ (p : Position). at.is_separator (at.kind p)) (sym to) ∙ e in
     subst (λ (b : Bool). FieldsRest b rules c f fields k z) s rest
 
-pub unkeyed_at : {rules : Rules} {c : Context} {f : Field} {i z : Position} {b : Bool} → at.names_field i ≡ b → SeesNot kind.LeftBracket i
+pub unkeyed_at : {rules : Rules} {c : Context} {f : Field} {i z : Position} {b : Bool} → at.names_field i ≡ b
+    → SeesNot kind.LeftBracket i
     → Spelled rules c (thing.field f) i z → UnkeyedForm b rules c f i z
 unkeyed_at {rules} {c} {f} {i} {z} s n x = subst (λ (b : Bool). UnkeyedForm b rules c f i z) s ((form x).1 n)
 
-pub parameters_at : {rules : Rules} {c : Context} {names : List Name} {varargs : Bool} {i z : Position} {w : Option TokenKind} → at.kind i ≡ w
+pub parameters_at : {rules : Rules} {c : Context} {names : List Name} {varargs : Bool} {i z : Position}
+    {w : Option TokenKind} → at.kind i ≡ w
     → Spelled rules c (thing.parameters names varargs) i z → ParametersForm w rules c names varargs i z
 parameters_at {rules} {c} {names} {varargs} {i} {z} s x =
     subst (λ (w : Option TokenKind). ParametersForm w rules c names varargs i z) s (form x)
 
-pub block_at : {rules : Rules} {c : Context} {stats : List Stat} {i z : Position} {a b : Bool} → ends_block (at.kind i) ≡ a
+pub block_at : {rules : Rules} {c : Context} {stats : List Stat} {i z : Position} {a b : Bool}
+    → ends_block (at.kind i) ≡ a
     → begins_last (at.kind i) ≡ b → Spelled rules c (thing.block stats) i z → BlockForm a b rules c stats i z
 block_at {rules} {c} {stats} {i} {z} s t x = subst₂ (λ (a b : Bool). BlockForm a b rules c stats i z) s t (form x)
 
 pub last_deed_at : {rules : Rules} {c : Context} {deed : Deed} {i z : Position} {w : Option TokenKind} → at.kind i ≡ w
     → Spelled rules c (thing.last_deed deed) i z → LastDeedForm w rules c deed i z
-last_deed_at {rules} {c} {deed} {i} {z} s x = subst (λ (w : Option TokenKind). LastDeedForm w rules c deed i z) s (form x)
+last_deed_at {rules} {c} {deed} {i} {z} s x =
+    subst (λ (w : Option TokenKind). LastDeedForm w rules c deed i z) s (form x)
 
 pub return_at : {rules : Rules} {c : Context} {deed : Deed} {i z : Position} {b : Bool} → Sees kind.Return i
-    → ends_return (at.kind (at.next i)) ≡ b → Spelled rules c (thing.last_deed deed) i z → ReturnForm b rules c deed (at.next i) z
-return_at {rules} {c} {deed} {i} {z} s e x = subst (λ (b : Bool). ReturnForm b rules c deed (at.next i) z) e (last_deed_at s x)
+    → ends_return (at.kind (at.next i)) ≡ b → Spelled rules c (thing.last_deed deed) i z
+    → ReturnForm b rules c deed (at.next i) z
+return_at {rules} {c} {deed} {i} {z} s e x =
+    subst (λ (b : Bool). ReturnForm b rules c deed (at.next i) z) e (last_deed_at s x)
 
 pub deed_at : {rules : Rules} {c : Context} {deed : Deed} {i z : Position} {w : Option TokenKind} → at.kind i ≡ w
     → Spelled rules c (thing.deed deed) i z → DeedForm w rules c deed i z
 deed_at {rules} {c} {deed} {i} {z} s x = subst (λ (w : Option TokenKind). DeedForm w rules c deed i z) s (form x)
 
-chain_deed_of : {rules : Rules} {c : Context} {deed : Deed} {i z : Position} (w : Option TokenKind) → begins_chain w ≡ true
+chain_deed_of : {rules : Rules} {c : Context} {deed : Deed} {i z : Position} (w : Option TokenKind)
+    → begins_chain w ≡ true
     → DeedForm w rules c deed i z → ChainDeedForm rules c deed i z
 chain_deed_of (Some kind.Name) h p = p
 chain_deed_of (Some kind.LeftParen) h p = p

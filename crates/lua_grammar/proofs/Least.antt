@@ -1,5 +1,6 @@
 -- The shortest words that spell a part.
-use Rattle.std.proofs.Common.{◌≡◌, ◌≢◌, ℕ, zero, suc, ◌+◌, ◌-◌, ◌≤◌, Bool, true, false, List, [], ◌∷◌, ◌++◌, Some, None, option_and_then, refl, sym, ap, ◌∙◌, subst, arith}
+use Rattle.std.proofs.Common.{◌≡◌, ◌≢◌, ℕ, zero, suc, ◌+◌, ◌-◌, ◌≤◌, Bool, true, false, List, [], ◌∷◌, ◌++◌, Some, None}
+use Rattle.std.proofs.Common.{option_and_then, refl, sym, ap, ◌∙◌, subst, arith}
 use Rattle.lua_lex.specs.declared.kinds.TokenKind.{TokenKind}
 use Rattle.lua_lex.specs.declared.kinds.TokenKind.TheVariants as kind
 use Rattle.lua_grammar.specs.declared.context.Context.{Context}
@@ -16,8 +17,8 @@ use Rattle.lua_grammar.specs.Grammar as by
 use Rattle.lua_grammar.specs.Grammar.{Spelled}
 use Rattle.lua_grammar.specs.Classes as class
 use Rattle.lua_grammar.specs.Classes.{Class, Reads}
-use Rattle.lua_grammar.specs.Rows as part
-use Rattle.lua_grammar.specs.Rows.{Part}
+use Rattle.lua_grammar.specs.Productions as part
+use Rattle.lua_grammar.specs.Productions.{Part}
 use Rattle.lua_grammar.specs.Stuck.{fresh}
 use Rattle.lua_grammar.specs.declared.expressions.Name.{Name}
 use Rattle.lua_grammar.proofs.Continuations.{lead, EndsOperand, EndsList}
@@ -59,7 +60,7 @@ in_words = word_of kind.In ∷ nil_words ++ loop_words
 abbrev pub range_words : List Word
 range_words = word_of kind.Name ∷ in_words
 
--- the shortest words of a class, where it stands unread in a row
+-- the shortest words of a class, where it stands unread in a production
 abbrev pub least_of : Class → List Word
 least_of class.expression = nil_words
 least_of (class.operand rank) = nil_words
@@ -99,7 +100,8 @@ lead_is i e = ap lead e
 pub takes_front : (i : Position) {w : Word} {t : List Word} → i.words ≡ w ∷ t → Takes w.kind i (at.next i)
 takes_front i e = record { seen = front_kind i e; taken = refl }
 
-pub takes_front_name : (i : Position) {w : Word} {t : List Word} → i.words ≡ w ∷ t → w.kind ≡ kind.Name → TakesName (at.name i) i (at.next i)
+pub takes_front_name : (i : Position) {w : Word} {t : List Word} → i.words ≡ w ∷ t → w.kind ≡ kind.Name
+    → TakesName (at.name i) i (at.next i)
 takes_front_name i e is = record { seen = front_kind i e ∙ ap Some is; name_is = refl; taken = refl }
 
 not_seen : (i : Position) {t : List Word} {k : TokenKind} → i.words ≡ t → lead t ≢ Some k → SeesNot k i
@@ -117,12 +119,16 @@ pub lone_operand : {rules : Rules} {c : Context} {x : Expr} {i j : Position} {t 
 lone_operand {rules} {c} {x} {i} {j} s spelled e ends zero is =
     subst (λ (r : ℕ). Spelled rules c (thing.operand r x) i j) (omega (arith, is)) (by.exponent s spelled)
 lone_operand {rules} {c} {x} {i} {j} s spelled e ends (suc zero) is =
-    subst (λ (r : ℕ). Spelled rules c (thing.operand r x) i j) (omega (arith, is)) (by.power s spelled (by.no_links (no_joint 7 j e ends)))
+    subst (λ (r : ℕ). Spelled rules c (thing.operand r x) i j) (omega (arith, is))
+    (by.power s spelled (by.no_links (no_joint 7 j e ends)))
 lone_operand {j = j} s spelled e ends (suc (suc n)) {rank} is =
-    by.operands (omega (arith, is)) (lone_operand s spelled e ends (suc n) (omega (arith, is))) (by.no_links (no_joint rank j e ends))
+    by.operands (omega (arith, is)) (lone_operand s spelled e ends (suc n) (omega (arith, is)))
+    (by.no_links (no_joint rank j e ends))
 
-pub lone_expression : {rules : Rules} {c : Context} {x : Expr} (i : Position) {j : Position} {t : List Word} → at.sign i ≡ None
-    → Spelled rules c (thing.simple x) (fresh i) j → j.words ≡ t → EndsOperand (lead t) → Spelled rules c (thing.expression x) i (resumed i j)
+pub lone_expression : {rules : Rules} {c : Context} {x : Expr} (i : Position) {j : Position} {t : List Word}
+    → at.sign i ≡ None
+    → Spelled rules c (thing.simple x) (fresh i) j → j.words ≡ t → EndsOperand (lead t)
+    → Spelled rules c (thing.expression x) i (resumed i j)
 lone_expression i s spelled e ends =
     by.expression (record { begun = refl }) (lone_operand s spelled e ends 7 refl) (record { resumed = refl })
 
@@ -135,21 +141,38 @@ ReadsTo rules c k i t = (j : Position) × Reads rules c k i j × (j.words ≡ t)
 nil_sign : (i : Position) → Sees kind.Nil i → at.sign i ≡ None
 nil_sign i s = rw s refl
 
-pub nil_operand : {rules : Rules} {c : Context} (i : Position) {t : List Word} (rank : ℕ) → rank ≤ 8 → i.words ≡ nil_words ++ t → EndsOperand (lead t)
+pub nil_operand : {rules : Rules} {c : Context} (i : Position) {t : List Word} (rank : ℕ) → rank ≤ 8
+    → i.words ≡ nil_words ++ t → EndsOperand (lead t)
     → ReadsTo rules c (class.operand rank) i t
 nil_operand i rank le e ends =
     let is : rank + (8 - rank) ≡ 8 = omega (arith, le) in
-    let behind = next_words i e in
-    (at.next i, (expr.Nil, lone_operand (nil_sign i (front_kind i e)) (by.nil_value (takes_front i e)) behind ends (8 - rank) is), behind)
+    let behind = next_words i e in (
+      at.next i,
+      (
+        expr.Nil,
+        lone_operand (nil_sign i (front_kind i e)) (by.nil_value (takes_front i e)) behind ends
+            (8 - rank) is,
+      ),
+      behind,
+    )
 
-pub nil_expression : {rules : Rules} {c : Context} (i : Position) {t : List Word} → i.words ≡ nil_words ++ t → EndsOperand (lead t)
+pub nil_expression : {rules : Rules} {c : Context} (i : Position) {t : List Word} → i.words ≡ nil_words ++ t
+    → EndsOperand (lead t)
     → ReadsTo rules c class.expression i t
 nil_expression i e ends =
     let j = at.next (fresh i) in
-    let behind = next_words (fresh i) e in
-    (resumed i j, (expr.Nil, lone_expression i (nil_sign i (front_kind i e)) (by.nil_value (takes_front (fresh i) e)) behind ends), behind)
+    let behind = next_words (fresh i) e in (
+      resumed i j,
+      (
+        expr.Nil,
+        lone_expression i (nil_sign i (front_kind i e)) (by.nil_value (takes_front (fresh i) e))
+            behind ends,
+      ),
+      behind,
+    )
 
-pub nil_list : {rules : Rules} {c : Context} (i : Position) {t : List Word} → i.words ≡ nil_words ++ t → EndsList (lead t)
+pub nil_list : {rules : Rules} {c : Context} (i : Position) {t : List Word} → i.words ≡ nil_words ++ t
+    → EndsList (lead t)
     → ReadsTo rules c class.list i t
 nil_list i e ends =
     let (j, x, behind) = nil_expression i e ends.0 in
@@ -159,7 +182,8 @@ pub no_suffixes : {rules : Rules} {c : Context} (i : Position) {t : List Word} �
     → Spelled rules c (thing.suffixes []) i i
 no_suffixes i e ends = by.no_suffixes (ap begins_suffix (lead_is i e) ∙ ends.0)
 
-pub name_chain : {rules : Rules} {c : Context} (i : Position) {t : List Word} → i.words ≡ name_words ++ t → EndsOperand (lead t)
+pub name_chain : {rules : Rules} {c : Context} (i : Position) {t : List Word} → i.words ≡ name_words ++ t
+    → EndsOperand (lead t)
     → (j : Position) × Spelled rules c (thing.chain (expr.Name (at.name i)) []) i j × (j.words ≡ t)
 name_chain i e ends =
     let behind = next_words i e in
@@ -167,27 +191,40 @@ name_chain i e ends =
 
 pub text_arguments : {rules : Rules} {c : Context} (i : Position) {t : List Word} → i.words ≡ word_of kind.Text ∷ t
     → ReadsTo rules c class.arguments i t
-text_arguments i e = (at.next i, (_, by.text_argument (record { seen = front_kind i e; number_is = refl; taken = refl })), next_words i e)
+text_arguments i e = (
+  at.next i,
+  (
+    _,
+    by.text_argument
+        (record { seen = front_kind i e; number_is = refl; taken = refl }),
+  ),
+  next_words i e,
+)
 
-pub one_name : {rules : Rules} {c : Context} (i : Position) {t : List Word} → i.words ≡ name_words ++ t → lead t ≢ Some kind.Comma
+pub one_name : {rules : Rules} {c : Context} (i : Position) {t : List Word} → i.words ≡ name_words ++ t
+    → lead t ≢ Some kind.Comma
     → ReadsTo rules c class.names i t
 one_name i e none =
     let behind = next_words i e in
     (at.next i, (_, by.one_name (takes_front_name i e refl) (not_seen (at.next i) behind none)), behind)
 
-pub no_fields : {rules : Rules} {c : Context} (i : Position) {t : List Word} → i.words ≡ t → lead t ≡ Some kind.RightBrace
+pub no_fields : {rules : Rules} {c : Context} (i : Position) {t : List Word} → i.words ≡ t
+    → lead t ≡ Some kind.RightBrace
     → ReadsTo rules c class.fields i t
 no_fields i e s = (i, ([], by.no_fields (lead_is i e ∙ s)), e)
 
-pub no_parameters : {rules : Rules} {c : Context} (i : Position) {t : List Word} → i.words ≡ t → lead t ≡ Some kind.RightParen
+pub no_parameters : {rules : Rules} {c : Context} (i : Position) {t : List Word} → i.words ≡ t
+    → lead t ≡ Some kind.RightParen
     → ReadsTo rules c class.parameters i t
 no_parameters i e s = (i, (([], false), by.no_parameters (lead_is i e ∙ s)), e)
 
-pub empty_block : {rules : Rules} {c : Context} (i : Position) {t : List Word} → i.words ≡ t → ends_block (lead t) ≡ true
+pub empty_block : {rules : Rules} {c : Context} (i : Position) {t : List Word} → i.words ≡ t
+    → ends_block (lead t) ≡ true
     → ReadsTo rules c class.block i t
 empty_block i e ends = (i, ([], by.no_statements (ap ends_block (lead_is i e) ∙ ends)), e)
 
-pub no_links : {rules : Rules} {c : Context} (i : Position) {t : List Word} (rank : ℕ) → i.words ≡ t → EndsOperand (lead t)
+pub no_links : {rules : Rules} {c : Context} (i : Position) {t : List Word} (rank : ℕ) → i.words ≡ t
+    → EndsOperand (lead t)
     → ReadsTo rules c (class.links rank) i t
 no_links i rank e ends = (i, ([], by.no_links (no_joint rank i e ends)), e)
 
@@ -212,8 +249,10 @@ pub no_values : {rules : Rules} {c : Context} (i : Position) {t : List Word} →
 no_values i e none = (i, ([], by.no_values (not_seen i e none)), e)
 
 -- parameters, and the end of a body without statements
-pub body_from : {rules : Rules} {c : Context} {number : ℕ} {names : List Name} {varargs : Bool} {i j k l : Position} {t : List Word} (line : ℕ)
-    (method : Bool) → at.BeginsBody number i j → Takes kind.LeftParen j k → Spelled rules c (thing.parameters names varargs) k l → HasRoom rules c
+pub body_from : {rules : Rules} {c : Context} {number : ℕ} {names : List Name} {varargs : Bool} {i j k l : Position}
+    {t : List Word} (line : ℕ)
+    (method : Bool) → at.BeginsBody number i j → Takes kind.LeftParen j k
+    → Spelled rules c (thing.parameters names varargs) k l → HasRoom rules c
     → l.words ≡ word_of kind.RightParen ∷ word_of kind.End ∷ t → ReadsTo rules c (class.function_body line method) i t
 body_from {number = number} {l = l} line method b u x room e =
     let e' = next_words l e in (
@@ -226,14 +265,20 @@ body_from {number = number} {l = l} line method b u x room e =
       next_words (at.next l) e',
     )
 
-pub least_function_body : {rules : Rules} {c : Context} (line : ℕ) (method : Bool) (i : Position) {t : List Word} → HasRoom rules c
+pub least_function_body : {rules : Rules} {c : Context} (line : ℕ) (method : Bool) (i : Position) {t : List Word}
+    → HasRoom rules c
     → i.words ≡ body_words ++ t → ReadsTo rules c (class.function_body line method) i t
 least_function_body line method i room e =
-    let b : Position = record i { bodies = i.bodies ++ record { line = 0; method = false; parameters = []; varargs = false; block = [] } ∷ [] } in
+    let b : Position = record i {
+      bodies = i.bodies
+          ++ record { line = 0; method = false; parameters = []; varargs = false; block = [] } ∷ [];
+    } in
     let e' = next_words b e in
-    body_from line method (record { number_is = refl; begun = refl }) (takes_front b e) (by.no_parameters (front_kind (at.next b) e')) room e'
+    body_from line method (record { number_is = refl; begun = refl }) (takes_front b e)
+    (by.no_parameters (front_kind (at.next b) e')) room e'
 
-pub least_loop : {rules : Rules} {c : Context} (i : Position) {t : List Word} → HasRoom rules c → i.words ≡ loop_words ++ t
+pub least_loop : {rules : Rules} {c : Context} (i : Position) {t : List Word} → HasRoom rules c
+    → i.words ≡ loop_words ++ t
     → ReadsTo rules c class.loop_block i t
 least_loop i room e =
     let j = at.next i in
@@ -241,7 +286,8 @@ least_loop i room e =
     let empty = by.no_statements (ap ends_block (front_kind j e1)) in
     (at.next j, (_, by.loop_block (takes_front i e) room empty (takes_front j e1)), next_words j e1)
 
-pub least_branch : {rules : Rules} {c : Context} (i : Position) {t : List Word} → HasRoom rules c → i.words ≡ branch_words ++ t
+pub least_branch : {rules : Rules} {c : Context} (i : Position) {t : List Word} → HasRoom rules c
+    → i.words ≡ branch_words ++ t
     → ends_block (lead t) ≡ true → ReadsTo rules c class.branch i t
 least_branch i room e ends =
     let (j, x, e1) = nil_expression i e (refl, refl) in
@@ -262,6 +308,7 @@ range_from {j = j} room names e =
     let (l, loop, e2) = least_loop k room e1 in
     (l, (_, by.generic_for names (takes_front j e) values.1 loop.1), e2)
 
-pub least_range : {rules : Rules} {c : Context} (i : Position) {t : List Word} → HasRoom rules c → i.words ≡ range_words ++ t
+pub least_range : {rules : Rules} {c : Context} (i : Position) {t : List Word} → HasRoom rules c
+    → i.words ≡ range_words ++ t
     → ReadsTo rules c class.for_range i t
 least_range i room e = let (j, names, e1) = one_name i e in_is_no_comma in range_from room names.1 e1

@@ -15,7 +15,7 @@ pub mod Splits
 pub mod Instead
 pub mod Progress
 pub mod StuckGoes
-pub mod NeverRows
+pub mod NeverParts
 pub mod Rooms
 pub mod NeverExpressions
 pub mod Behind
@@ -45,9 +45,9 @@ pub mod AtEnd
 pub mod GoesOn
 pub mod Halting
 pub mod PartsRead
-pub mod RowsFit
+pub mod ProductionsFit
 pub mod PartsGoOn
-pub mod RowsGoOn
+pub mod ProductionsGoOn
 pub mod NeverSuffixes
 pub mod NeverCounts
 pub mod NeverFunctions

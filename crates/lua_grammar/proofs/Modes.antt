@@ -25,7 +25,8 @@ pub nothing_seen : {z : Position} {rules : Rules} {n : ℕ} → Mode fault.Unexp
 nothing_seen m i le less = let e = all_seen m in absurd (omega (arith, le, less, e))
 
 -- the word at fault is the last that is seen
-pub last_word : {f : SyntaxKind} {z : Position} {rules : Rules} {n : ℕ} → Mode f z rules n → n < length z.words → suc n ≡ length z.words
+pub last_word : {f : SyntaxKind} {z : Position} {rules : Rules} {n : ℕ} → Mode f z rules n → n < length z.words
+    → suc n ≡ length z.words
 last_word before less = absurd (omega (arith, less))
 last_word (with_word r e) less = e
 
@@ -39,7 +40,8 @@ pub free : (f : SyntaxKind) {m : ℕ} → rank f ≡ suc m → (P : Type 0) → 
 free f r P = later f (omega (arith, r)) P
 
 -- with the word at fault, its kind of fault is not looked for, nor is one that is looked for behind it
-pub unasked : {f : SyntaxKind} {z : Position} {rules : Rules} {n : ℕ} (P : Type 0) → Mode f z rules n → n < length z.words → (g : SyntaxKind)
+pub unasked : {f : SyntaxKind} {z : Position} {rules : Rules} {n : ℕ} (P : Type 0) → Mode f z rules n
+    → n < length z.words → (g : SyntaxKind)
     → rank f ≤ rank g → Kept (rules g) P
 unasked P before less g le = absurd (omega (arith, less))
 unasked P (with_word r e) less g le = later g (omega (arith, r, le)) P

@@ -9,17 +9,30 @@ use Rattle.lua_grammar.specs.Classes.{Class, Reads}
 use Rattle.lua_grammar.specs.Stuck as stuck
 use Rattle.lua_grammar.specs.Stuck.{Stuck}
 use Rattle.lua_grammar.proofs.Continuations.{instead, Shown}
-use Rattle.lua_grammar.proofs.NeverRows.{Never, never_refused, never_inside}
-use Rattle.lua_grammar.proofs.NeverExpressions.{never_expression, never_unary_level, never_simple, never_simple_level, never_varargs, never_first_expression, never_more_expressions, never_constructor_level, never_first_field, never_more_fields, never_plain}
-use Rattle.lua_grammar.proofs.NeverSuffixes.{never_head, never_head_level, never_chain_head, never_chain_suffixes, never_own_chain, never_suffix_line, never_suffix_level, never_suffix, never_suffixes, never_arguments, never_arguments_line, never_arguments_level}
+use Rattle.lua_grammar.proofs.NeverParts.{Never, never_refused, never_inside}
+use Rattle.lua_grammar.proofs.NeverExpressions.{never_expression, never_unary_level, never_simple, never_simple_level}
+use Rattle.lua_grammar.proofs.NeverExpressions.{never_varargs, never_first_expression, never_more_expressions}
+use Rattle.lua_grammar.proofs.NeverExpressions.{never_constructor_level, never_first_field, never_more_fields}
+use Rattle.lua_grammar.proofs.NeverExpressions.{never_plain}
+use Rattle.lua_grammar.proofs.NeverSuffixes.{never_head, never_head_level, never_chain_head, never_chain_suffixes}
+use Rattle.lua_grammar.proofs.NeverSuffixes.{never_own_chain, never_suffix_line, never_suffix_level, never_suffix}
+use Rattle.lua_grammar.proofs.NeverSuffixes.{never_suffixes, never_arguments, never_arguments_line}
+use Rattle.lua_grammar.proofs.NeverSuffixes.{never_arguments_level}
 use Rattle.lua_grammar.proofs.NeverCounts.{never_suffix_count}
-use Rattle.lua_grammar.proofs.NeverFunctions.{never_parameter, never_more_parameters, never_last_comma, never_no_parameters, never_in_parameters, never_body_refused, never_body_inside, never_function_refused, never_function_inside, never_function_statement, never_method_refused, never_method_inside}
-use Rattle.lua_grammar.proofs.NeverStatements.{never_break, never_deed, never_deed_level, never_local_level, never_name, never_more_names, never_for_names, never_for_in, never_for_list, never_for_block}
-use Rattle.lua_grammar.proofs.NeverTargets.{never_front, never_alone, never_more_of_targets, never_no_assign, never_assigned, never_first_target, never_more_targets, never_target, never_no_target}
+use Rattle.lua_grammar.proofs.NeverFunctions.{never_parameter, never_more_parameters, never_last_comma}
+use Rattle.lua_grammar.proofs.NeverFunctions.{never_no_parameters, never_in_parameters, never_body_refused}
+use Rattle.lua_grammar.proofs.NeverFunctions.{never_body_inside, never_function_refused, never_function_inside}
+use Rattle.lua_grammar.proofs.NeverFunctions.{never_function_statement, never_method_refused, never_method_inside}
+use Rattle.lua_grammar.proofs.NeverStatements.{never_break, never_deed, never_deed_level, never_local_level, never_name}
+use Rattle.lua_grammar.proofs.NeverStatements.{never_more_names, never_for_names, never_for_in, never_for_list}
+use Rattle.lua_grammar.proofs.NeverStatements.{never_for_block}
+use Rattle.lua_grammar.proofs.NeverTargets.{never_front, never_alone, never_more_of_targets, never_no_assign}
+use Rattle.lua_grammar.proofs.NeverTargets.{never_assigned, never_first_target, never_more_targets, never_target}
+use Rattle.lua_grammar.proofs.NeverTargets.{never_no_target}
 
 pub none_from : {f : SyntaxKind} {c : Context} {k : Class} {i z : Position} → Stuck f c k i z → Never f c k i z
-none_from (stuck.refused row read r) = never_refused row read r
-none_from (stuck.inside row read s) = never_inside row read s (none_from s)
+none_from (stuck.refused production read r) = never_refused production read r
+none_from (stuck.inside production read s) = never_inside production read s (none_from s)
 none_from (stuck.expression s) = never_expression s (none_from s)
 none_from (stuck.unary_level g le s full) = never_unary_level _ g s full
 none_from (stuck.simple none) = never_simple _ none
@@ -77,6 +90,7 @@ none_from (stuck.target s) = never_target s (none_from s)
 none_from (stuck.no_target x r few none) = never_no_target x r none
 
 -- by the rules looked for up to the fault, no words go on from those up to the one at fault
-pub never : {f : SyntaxKind} {c : Context} {k : Class} {i z : Position} → Stuck f c k i z → {n : ℕ} {words : List Word} → Shown z n words
+pub never : {f : SyntaxKind} {c : Context} {k : Class} {i z : Position} → Stuck f c k i z → {n : ℕ} {words : List Word}
+    → Shown z n words
     → {j : Position} → Reads (up_to (rank f)) c k (instead n words i) j → ⊥
 never s {n} {words} h {j} x = none_from s n words h j x

@@ -18,17 +18,19 @@ use Rattle.lua_grammar.proofs.Continuations.{instead, EndIn}
 use Rattle.lua_grammar.proofs.Inversions.{suffixes_at}
 use Rattle.lua_grammar.proofs.Instead.{kind_shown}
 use Rattle.lua_grammar.proofs.Kept.{suffix_kept, suffix_ends}
-use Rattle.lua_grammar.proofs.NeverRows.{Never}
+use Rattle.lua_grammar.proofs.NeverParts.{Never}
 
 -- ---- the last call that the count allows
 
 -- behind it nothing else is spelled
-last_call : {c : Context} {suffix : Suffix} {rest all : List Suffix} {k z : Position} → 1000 ≤ k.suffixes → all ≡ suffix ∷ rest
+last_call : {c : Context} {suffix : Suffix} {rest all : List Suffix} {k z : Position} → 1000 ≤ k.suffixes
+    → all ≡ suffix ∷ rest
     → EndsInCall (suffix ∷ []) → (EndsInCall all → ⊥) → Spelled (up_to 3) c (thing.suffixes rest) k z → ⊥
 last_call most is (before, how, call) no_end (by.no_suffixes e) = no_end (before, how, is ∙ call)
 last_call most is call no_end (by.more_suffixes h g x xs) = absurd (omega (arith, most, h))
 
-call_short : {c : Context} {suffix : Suffix} {rest all : List Suffix} {i k z : Position} → (i.suffixes + 1 ≡ 1000) ⊎ (i.suffixes + 1 < 1000)
+call_short : {c : Context} {suffix : Suffix} {rest all : List Suffix} {i k z : Position}
+    → (i.suffixes + 1 ≡ 1000) ⊎ (i.suffixes + 1 < 1000)
     → (EndsInCall all → ⊥) → all ≡ suffix ∷ rest → Spelled (up_to 3) c (thing.suffix suffix) (counted i) k
     → Spelled (up_to 3) c (thing.suffixes rest) k z → begins_call (at.kind i) ≡ true → i.suffixes + 1 < 1000
 call_short (inr less) are is x xs calls = less
@@ -36,7 +38,8 @@ call_short {suffix = suffix} {i = i} {k} (inl most) are is x xs calls =
     let call = subst (λ (b : Bool). EndIn b (suffix ∷ [])) calls (suffix_ends x) in
     absurd (last_call (omega (arith, most, suffix_kept x)) is call are xs)
 
-has_count : {c : Context} {suffix : Suffix} {rest all : List Suffix} {i k z : Position} (sought : Sought) → i.suffixes < 1000
+has_count : {c : Context} {suffix : Suffix} {rest all : List Suffix} {i k z : Position} (sought : Sought)
+    → i.suffixes < 1000
     → AreSought sought all → all ≡ suffix ∷ rest → Spelled (up_to 3) c (thing.suffix suffix) (counted i) k
     → Spelled (up_to 3) c (thing.suffixes rest) k z → HasCount sought i
 has_count class.anything short are is x xs = short
@@ -44,14 +47,17 @@ has_count class.front short are is x xs = short
 has_count {i = i} class.target short are is x xs =
     (short, call_short {i = i} (eq-or-lt_of_le (omega (arith, short))) are is x xs)
 
-count_at : (sought : Sought) (i i' : Position) → at.kind i' ≡ at.kind i → i'.suffixes ≡ i.suffixes → HasCount sought i' → HasCount sought i
+count_at : (sought : Sought) (i i' : Position) → at.kind i' ≡ at.kind i → i'.suffixes ≡ i.suffixes → HasCount sought i'
+    → HasCount sought i
 count_at class.anything i i' w e h = omega (arith, e, h)
 count_at class.front i i' w e h = omega (arith, e, h)
 count_at class.target i i' w e (h, g) =
     (omega (arith, e, h), λ call. let less = g (ap begins_call w ∙ call) in omega (arith, e, less))
 
-pub never_suffix_count : {c : Context} (sought : Sought) (i : Position) → begins_suffix (at.kind i) ≡ true → (HasCount sought i → ⊥)
+pub never_suffix_count : {c : Context} (sought : Sought) (i : Position) → begins_suffix (at.kind i) ≡ true
+    → (HasCount sought i → ⊥)
     → Never fault.TooLong c (class.suffixes sought) i i
 never_suffix_count sought i begins none n words h j ((all, are), x) =
     let (suffix, rest, k, is, short, a, b) = suffixes_at (ap begins_suffix (kind_shown i h) ∙ begins) x in
-    none (count_at sought i (instead n words i) (kind_shown i h) refl (has_count {i = instead n words i} sought short are is a b))
+    none (count_at sought i (instead n words i) (kind_shown i h) refl
+    (has_count {i = instead n words i} sought short are is a b))

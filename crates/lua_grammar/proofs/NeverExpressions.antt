@@ -1,5 +1,6 @@
 -- Where a reader of an expression or of a list is stuck, none is spelled, whatever words stand behind the next one.
-use Rattle.std.proofs.Common.{◌≡◌, ℕ, ◌≤◌, Bool, true, false, List, [], ◌∷◌, Option, Some, None, option_and_then, refl, sym, ap, ◌∙◌, arith}
+use Rattle.std.proofs.Common.{◌≡◌, ℕ, ◌≤◌, Bool, true, false, List, [], ◌∷◌, Option, Some, None, option_and_then, refl}
+use Rattle.std.proofs.Common.{sym, ap, ◌∙◌, arith}
 use Rattle.lua_lex.specs.declared.kinds.TokenKind.{TokenKind}
 use Rattle.lua_lex.specs.declared.kinds.TokenKind.TheVariants as kind
 use Rattle.lua_grammar.specs.declared.kinds.SyntaxKind.{SyntaxKind}
@@ -28,7 +29,7 @@ use Rattle.lua_grammar.proofs.Instead.{kind_shown, sign_shown, shown_before}
 use Rattle.lua_grammar.proofs.Progress.{also, eaten, takes, passes, goes}
 use Rattle.lua_grammar.proofs.Again.{again}
 use Rattle.lua_grammar.proofs.StuckGoes.{stuck_goes}
-use Rattle.lua_grammar.proofs.NeverRows.{Never, next_instead, word_again}
+use Rattle.lua_grammar.proofs.NeverParts.{Never, next_instead, word_again}
 use Rattle.lua_grammar.proofs.Rooms.{simple_first, constructor_room, unary_room, simple_room}
 
 -- ---- expressions
@@ -37,33 +38,40 @@ pub never_expression : {f : SyntaxKind} {c : Context} {i z : Position} → Stuck
     → Never f c (class.operand 1) (fresh i) z → Never f c class.expression i z
 never_expression s never n words h j (e, x) = let (k, a, r) = form x in never n words h k (e, a)
 
-pub never_unary_level : {c : Context} {order : ℕ} {by : Unary} (i : Position) → 7 ≤ order → at.sign i ≡ Some by → IsFull c
+pub never_unary_level : {c : Context} {order : ℕ} {by : Unary} (i : Position) → 7 ≤ order → at.sign i ≡ Some by
+    → IsFull c
     → Never fault.TooDeep c (class.operand order) i i
 never_unary_level i g s full n words h j (e, x) = absurd (omega (arith, full, unary_room x g (sign_shown i h ∙ s)))
 
-pub never_simple : {c : Context} (i : Position) → begins_simple (at.kind i) ≡ false → Never fault.Unexpected c class.simple i i
+pub never_simple : {c : Context} (i : Position) → begins_simple (at.kind i) ≡ false
+    → Never fault.Unexpected c class.simple i i
 never_simple i none n words h j (e, x) = absurd (cc (none, kind_shown i h, simple_first x))
 
-pub never_simple_level : {c : Context} (i : Position) → nests_simple (at.kind i) ≡ true → IsFull c → Never fault.TooDeep c class.simple i i
+pub never_simple_level : {c : Context} (i : Position) → nests_simple (at.kind i) ≡ true → IsFull c
+    → Never fault.TooDeep c class.simple i i
 never_simple_level i nests full n words h j (e, x) =
     absurd (omega (arith, full, simple_room x (ap nests_simple (kind_shown i h) ∙ nests)))
 
-varargs_kept : {rules : Rules} {c : Context} {e : Expr} {i z : Position} → Spelled rules c (thing.simple e) i z → Sees kind.Dots i
+varargs_kept : {rules : Rules} {c : Context} {e : Expr} {i z : Position} → Spelled rules c (thing.simple e) i z
+    → Sees kind.Dots i
     → Kept (rules fault.NoVararg) (c.varargs ≡ true)
 varargs_kept x s = (simple_at s x).2
 
-pub never_varargs : {c : Context} (i : Position) → Sees kind.Dots i → c.varargs ≡ false → Never fault.NoVararg c class.simple i i
+pub never_varargs : {c : Context} (i : Position) → Sees kind.Dots i → c.varargs ≡ false
+    → Never fault.NoVararg c class.simple i i
 never_varargs i s none n words h j (e, x) =
     let kept = varargs_kept x (kind_shown i h ∙ s) in
     absurd (cc (none, kept))
 
 -- ---- lists of expressions, and table constructors
 
-pub never_first_expression : {f : SyntaxKind} {c : Context} {i z : Position} → Stuck f c class.expression i z → Never f c class.expression i z
+pub never_first_expression : {f : SyntaxKind} {c : Context} {i z : Position} → Stuck f c class.expression i z
+    → Never f c class.expression i z
     → Never f c class.list i z
 never_first_expression s never n words h j (es, x) = let (e, k, a, rest) = form x in never n words h k (e, a)
 
-pub never_more_expressions : {f : SyntaxKind} {c : Context} {e : Expr} {i j k z : Position} → Spelled every_rule c (thing.expression e) i j
+pub never_more_expressions : {f : SyntaxKind} {c : Context} {e : Expr} {i j k z : Position}
+    → Spelled every_rule c (thing.expression e) i j
     → Takes kind.Comma j k → Stuck f c class.list k z → Never f c class.list k z → Never f c class.list i z
 never_more_expressions {e = e} {j = j} {k} {z} first t s never n words h m (es, x) =
     let there = shown_before j z (also (eaten (takes t)) (stuck_goes s)).words h in
@@ -75,7 +83,8 @@ never_more_expressions {e = e} {j = j} {k} {z} first t s never n words h m (es, 
 pub never_constructor_level : {c : Context} (i : Position) → IsFull c → Never fault.TooDeep c class.constructor i i
 never_constructor_level i full n words h j (fields, x) = absurd (omega (arith, full, constructor_room x))
 
-pub never_first_field : {f : SyntaxKind} {c : Context} {i z : Position} → SeesNot kind.RightBrace i → Stuck f c class.field i z
+pub never_first_field : {f : SyntaxKind} {c : Context} {i z : Position} → SeesNot kind.RightBrace i
+    → Stuck f c class.field i z
     → Never f c class.field i z → Never f c class.fields i z
 never_first_field {i = i} {z} unseen s never n words h j (fields, x) =
     let same = kind_shown i (shown_before i z (stuck_goes s).words h) in
@@ -83,7 +92,8 @@ never_first_field {i = i} {z} unseen s never n words h j (fields, x) =
     never n words h k (e, a)
 
 pub never_more_fields : {f : SyntaxKind} {c : Context} {e : Field} {i j k z : Position} → SeesNot kind.RightBrace i
-    → Spelled every_rule c (thing.field e) i j → at.is_separator (at.kind j) ≡ true → Passes j k → Stuck f c class.fields k z
+    → Spelled every_rule c (thing.field e) i j → at.is_separator (at.kind j) ≡ true → Passes j k
+    → Stuck f c class.fields k z
     → Never f c class.fields k z → Never f c class.fields i z
 never_more_fields {f} {c} {e = e} {i} {j} {k} {z} unseen first sep p s never n words h m (fields, x) =
     let there = shown_before j z (also (passes p) (stuck_goes s)).words h in
@@ -126,7 +136,8 @@ named_is : (v w : Option TokenKind) → at.is_named v w ≡ true → (v ≡ Some
 named_is (Some kind.Name) (Some kind.Assign) e = (refl, refl)
 named_is v w e = absurd (cc)
 
-plain_by : (rules : Rules) {c : Context} {e : Field} {i j : Position} (named : Bool) → at.names_field i ≡ named → SeesNot kind.LeftBracket i
+plain_by : (rules : Rules) {c : Context} {e : Field} {i j : Position} (named : Bool) → at.names_field i ≡ named
+    → SeesNot kind.LeftBracket i
     → ((k : Position) → Reads rules c class.expression i k → ⊥) → Spelled rules c (thing.field e) i j → ⊥
 plain_by rules {c} {i = i} true named unseen none x =
     let (name, assign) = named_is (at.kind i) (at.kind (at.next i)) named in
@@ -134,7 +145,8 @@ plain_by rules {c} {i = i} true named unseen none x =
     none k (_, a)
 plain_by rules false named unseen none x = let (e, is, a) = unkeyed_at named unseen x in none _ (e, a)
 
-pub never_plain : {f : SyntaxKind} {c : Context} {i z : Position} → SeesNot kind.LeftBracket i → Stuck f c class.expression i z
+pub never_plain : {f : SyntaxKind} {c : Context} {i z : Position} → SeesNot kind.LeftBracket i
+    → Stuck f c class.expression i z
     → Never f c class.expression i z → Never f c class.field i z
 never_plain {f} {i = i} {z} unseen s never n words h j (e, x) =
     let same = kind_shown i (shown_before i z (stuck_goes s).words h) in

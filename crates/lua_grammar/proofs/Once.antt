@@ -13,10 +13,29 @@ use Rattle.lua_grammar.specs.Trees.{IsTree}
 use Rattle.lua_grammar.proofs.FirstWords.{first_word, begins_expression, begins_names}
 use Rattle.lua_grammar.proofs.Inversions.{moved, not_first, no_assignment, form}
 use Rattle.lua_grammar.proofs.Unique.{Unique}
-use Rattle.lua_grammar.proofs.OnceExpressions.{expression_once, operands_once, unary_once, power_once, unary_exponent_once, exponent_once, no_links_once, more_links_once, nil_value_once, false_value_once, true_value_once, number_once, text_once, varargs_once, function_once, table_once, prefix_once, chain_once, name_once, parenthesis_once, no_suffixes_once, more_suffixes_once, member_once, index_once, call_once, method_once, no_arguments_once, arguments_once, table_argument_once, text_argument_once, own_chain_once}
-use Rattle.lua_grammar.proofs.OnceLists.{last_expression_once, more_expressions_once, constructor_once, no_fields_once, last_field_once, more_fields_once, keyed_once, named_once, plain_once, function_body_once, no_parameters_once, only_varargs_once, last_parameter_once, more_parameters_once, one_name_once, more_names_once}
-use Rattle.lua_grammar.proofs.OnceStatements.{no_statements_once, last_statement_once, more_statements_once, statement_once, last_once, break_statement_once, return_nothing_once, return_values_once, do_block_once, while_loop_once, repeat_loop_once, if_statement_once, no_branches_once, more_branches_once, branch_once, no_else_once, else_block_once, for_loop_once, numeric_for_once, no_step_once, step_once, generic_for_once, loop_block_once, function_statement_once, method_statement_once, no_path_once, more_path_once, local_function_once, local_once, no_values_once, values_once}
-use Rattle.lua_grammar.proofs.OnceTargets.{assign_once, one_target_once, more_targets_once, name_target_once, row_target_once, call_statement_once}
+use Rattle.lua_grammar.proofs.OnceExpressions.{expression_once, operands_once, unary_once, power_once}
+use Rattle.lua_grammar.proofs.OnceExpressions.{unary_exponent_once, exponent_once, no_links_once, more_links_once}
+use Rattle.lua_grammar.proofs.OnceExpressions.{nil_value_once, false_value_once, true_value_once, number_once}
+use Rattle.lua_grammar.proofs.OnceExpressions.{text_once, varargs_once, function_once, table_once, prefix_once}
+use Rattle.lua_grammar.proofs.OnceExpressions.{chain_once, name_once, parenthesis_once, no_suffixes_once}
+use Rattle.lua_grammar.proofs.OnceExpressions.{more_suffixes_once, member_once, index_once, call_once, method_once}
+use Rattle.lua_grammar.proofs.OnceExpressions.{no_arguments_once, arguments_once, table_argument_once}
+use Rattle.lua_grammar.proofs.OnceExpressions.{text_argument_once, own_chain_once}
+use Rattle.lua_grammar.proofs.OnceLists.{last_expression_once, more_expressions_once, constructor_once, no_fields_once}
+use Rattle.lua_grammar.proofs.OnceLists.{last_field_once, more_fields_once, keyed_once, named_once, plain_once}
+use Rattle.lua_grammar.proofs.OnceLists.{function_body_once, no_parameters_once, only_varargs_once, last_parameter_once}
+use Rattle.lua_grammar.proofs.OnceLists.{more_parameters_once, one_name_once, more_names_once}
+use Rattle.lua_grammar.proofs.OnceStatements.{no_statements_once, last_statement_once, more_statements_once}
+use Rattle.lua_grammar.proofs.OnceStatements.{statement_once, last_once, break_statement_once, return_nothing_once}
+use Rattle.lua_grammar.proofs.OnceStatements.{return_values_once, do_block_once, while_loop_once, repeat_loop_once}
+use Rattle.lua_grammar.proofs.OnceStatements.{if_statement_once, no_branches_once, more_branches_once, branch_once}
+use Rattle.lua_grammar.proofs.OnceStatements.{no_else_once, else_block_once, for_loop_once, numeric_for_once}
+use Rattle.lua_grammar.proofs.OnceStatements.{no_step_once, step_once, generic_for_once, loop_block_once}
+use Rattle.lua_grammar.proofs.OnceStatements.{function_statement_once, method_statement_once, no_path_once}
+use Rattle.lua_grammar.proofs.OnceStatements.{more_path_once, local_function_once, local_once, no_values_once}
+use Rattle.lua_grammar.proofs.OnceStatements.{values_once}
+use Rattle.lua_grammar.proofs.OnceTargets.{assign_once, one_target_once, more_targets_once, name_target_once}
+use Rattle.lua_grammar.proofs.OnceTargets.{index_target_once, call_statement_once}
 
 pub once : {rules : Rules} {c : Context} {t : Thing} {i j : Position} → Spelled rules c t i j → Unique rules c t i j
 once (by.expression h x g) = expression_once h (once x) g
@@ -101,7 +120,7 @@ once (by.one_target x h) = one_target_once (once x) h
 once (by.more_targets x t y) = more_targets_once (once x) t (once y)
 once (by.own_chain h x g) = own_chain_once h (once x) g
 once (by.name_target x) = name_target_once (once x)
-once (by.row_target suffixes x h) = row_target_once suffixes (once x) h
+once (by.index_target suffixes x h) = index_target_once suffixes (once x) h
 once (by.call_statement suffixes x h) = call_statement_once suffixes (once x) h (first_word x)
 
 pub one_tree : {rules : Rules} (words : List Word) (block block' : List Stat) (bodies bodies' : List Body)

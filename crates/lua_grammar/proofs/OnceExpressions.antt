@@ -21,9 +21,11 @@ use Rattle.lua_grammar.specs.Contexts as context
 use Rattle.lua_grammar.specs.Contexts.{Rules, Kept, HasRoom, IsShort}
 use Rattle.lua_grammar.specs.Things as thing
 use Rattle.lua_grammar.specs.Parts.{suffixed, row, link_of}
-use Rattle.lua_grammar.specs.Rows.{begins_chain, begins_arguments}
+use Rattle.lua_grammar.specs.Productions.{begins_chain, begins_arguments}
 use Rattle.lua_grammar.proofs.FirstWords.{begins_table}
-use Rattle.lua_grammar.proofs.Inversions.{moved, on_line, takes_at, unseen_at, table_word, form, power_at, exponent_at, links_at, simple_at, prefix_at, head_at, suffixes_at, suffix_at, call_at, arguments_at}
+use Rattle.lua_grammar.proofs.Inversions.{moved, on_line, takes_at, unseen_at, table_word, form, power_at, exponent_at}
+use Rattle.lua_grammar.proofs.Inversions.{links_at, simple_at, prefix_at, head_at, suffixes_at, suffix_at, call_at}
+use Rattle.lua_grammar.proofs.Inversions.{arguments_at}
 use Rattle.lua_grammar.proofs.Unique.{Unique, resumed, onward, same_name_taken}
 
 abbrev linked : Binary → Expr → List Link → List Link
@@ -36,7 +38,8 @@ expression_once {i = i} b x r e' z s =
     let (same, to) = x _ _ (moved (sym b.begun) x') in
     (same, r.resumed ∙ ap (resumed i) to ∙ sym r'.resumed)
 
-pub operands_once : {rules : Rules} {c : Context} {rank : ℕ} {first : Expr} {links : List Link} {i j k : Position} → rank ≤ 6
+pub operands_once : {rules : Rules} {c : Context} {rank : ℕ} {first : Expr} {links : List Link} {i j k : Position}
+    → rank ≤ 6
     → Unique rules c (thing.operand (rank + 1) first) i j → Unique rules c (thing.links rank links) j k
     → Unique rules c (thing.operand rank (row first links)) i k
 operands_once le x ls e' z s =
@@ -45,7 +48,8 @@ operands_once le x ls e' z s =
     let (rest, end) = ls _ _ (moved (sym to) ls') in
     (ap₂ row same rest ∙ sym is, end)
 
-pub unary_once : {rules : Rules} {c : Context} {by : Unary} {e : Expr} {i j k : Position} → at.sign i ≡ Some by → at.Passes i j
+pub unary_once : {rules : Rules} {c : Context} {by : Unary} {e : Expr} {i j k : Position} → at.sign i ≡ Some by
+    → at.Passes i j
     → HasRoom rules c → Unique rules (context.inner c) (thing.operand 7 e) j k
     → Unique rules c (thing.operand 7 (expr.Unary by e)) i k
 unary_once {by = by} g p r x e' z s =
@@ -80,7 +84,8 @@ no_links_once e links' z s =
     let (is, end) = links_at e s in
     (sym is, sym end)
 
-pub more_links_once : {rules : Rules} {c : Context} {rank : ℕ} {by : Binary} {e : Expr} {links : List Link} {i j k l : Position}
+pub more_links_once : {rules : Rules} {c : Context} {rank : ℕ} {by : Binary} {e : Expr} {links : List Link}
+    {i j k l : Position}
     → at.joint rank i ≡ Some by → IsShort rules i.operators → at.PassesOperator i j
     → Unique rules c (thing.operand (rank + 1) e) j k → Unique rules c (thing.links rank links) k l
     → Unique rules c (thing.links rank (link_of by e ∷ links)) i l
@@ -205,7 +210,8 @@ member_once t n suffix' z s =
     let (same, end) = same_name_taken n t.taken n' in
     (ap (λ (m : Name). suffix_of.Key (key.Field m)) same ∙ sym is, end)
 
-pub index_once : {rules : Rules} {c : Context} {e : Expr} {i j k l : Position} → Takes kind.LeftBracket i j → HasRoom rules c
+pub index_once : {rules : Rules} {c : Context} {e : Expr} {i j k l : Position} → Takes kind.LeftBracket i j
+    → HasRoom rules c
     → Unique rules (context.inner c) (thing.expression e) j k → Takes kind.RightBracket k l
     → Unique rules c (thing.suffix (suffix_of.Key (key.Index e))) i l
 index_once t r x u suffix' z s =
@@ -213,7 +219,8 @@ index_once t r x u suffix' z s =
     let (same, to) = x _ _ (moved (sym t.taken) x') in
     (ap (λ (e : Expr). suffix_of.Key (key.Index e)) same ∙ sym is, onward u.taken to u'.taken)
 
-pub call_once : {rules : Rules} {c : Context} {es : List Expr} {i j : Position} → Unique rules c (thing.arguments es) i j
+pub call_once : {rules : Rules} {c : Context} {es : List Expr} {i j : Position}
+    → Unique rules c (thing.arguments es) i j
     → begins_arguments (at.kind i) ≡ true → Unique rules c (thing.suffix (suffix_of.Call (call_of.Plain es))) i j
 call_once x first suffix' z s =
     let (es', is, x') = call_at first s in

@@ -1,5 +1,6 @@
 -- A block or a statement that begins somewhere has one tree and one end, if its parts have.
-use Rattle.std.proofs.Common.{◌≡◌, ℕ, true, false, List, [], ◌∷◌, ◌++◌, Option, Some, None, refl, sym, ap, ap₂, ◌∙◌, subst}
+use Rattle.std.proofs.Common.{◌≡◌, ℕ, true, false, List, [], ◌∷◌, ◌++◌, Option, Some, None, refl, sym, ap, ap₂, ◌∙◌}
+use Rattle.std.proofs.Common.{subst}
 use Rattle.lua_lex.specs.declared.kinds.TokenKind.TheVariants as kind
 use Rattle.lua_grammar.specs.declared.kinds.SyntaxKind.TheVariants as fault
 use Rattle.lua_grammar.specs.declared.context.Context.{Context}
@@ -16,28 +17,35 @@ use Rattle.lua_grammar.specs.Contexts as context
 use Rattle.lua_grammar.specs.Contexts.{Rules, Kept, HasRoom, IsShort}
 use Rattle.lua_grammar.specs.Things as thing
 use Rattle.lua_grammar.specs.Parts.{stat_of, branch_of, IsReturn}
-use Rattle.lua_grammar.specs.Rows.{begins_last}
+use Rattle.lua_grammar.specs.Productions.{begins_last}
 use Rattle.lua_grammar.specs.Stuck.{begins_deed}
 use Rattle.lua_grammar.proofs.Ends.{same_return}
-use Rattle.lua_grammar.proofs.Inversions.{moved, on_line, takes_at, unseen_at, ends_at, statements_go_on, statements_are_not_last, last_goes_on, form, block_at, last_deed_at, return_at, deed_at}
+use Rattle.lua_grammar.proofs.Inversions.{moved, on_line, takes_at, unseen_at, ends_at, statements_go_on}
+use Rattle.lua_grammar.proofs.Inversions.{statements_are_not_last, last_goes_on, form, block_at, last_deed_at}
+use Rattle.lua_grammar.proofs.Inversions.{return_at, deed_at}
 use Rattle.lua_grammar.proofs.Unique.{Unique, onward, same_name_taken}
 
 abbrev behind_semicolon : Position → Position
 behind_semicolon i = at.behind_semicolon (at.kind i) i
 
-same_for : {n n' : Name} {begin begin' limit limit' : Expr} {step step' : Option Expr} {block block' : List Stat} → n ≡ n' → begin ≡ begin'
-    → limit ≡ limit' → step ≡ step' → block ≡ block' → deed_of.For n begin limit step block ≡ deed_of.For n' begin' limit' step' block'
+same_for : {n n' : Name} {begin begin' limit limit' : Expr} {step step' : Option Expr} {block block' : List Stat}
+    → n ≡ n' → begin ≡ begin'
+    → limit ≡ limit' → step ≡ step' → block ≡ block' → deed_of.For n begin limit step block
+    ≡ deed_of.For n' begin' limit' step' block'
 same_for p q r s t = cc
 
-same_for_in : {names names' : List Name} {es es' : List Expr} {block block' : List Stat} → names ≡ names' → es ≡ es' → block ≡ block'
+same_for_in : {names names' : List Name} {es es' : List Expr} {block block' : List Stat} → names ≡ names' → es ≡ es'
+    → block ≡ block'
     → deed_of.ForIn names es block ≡ deed_of.ForIn names' es' block'
 same_for_in p q r = cc
 
-same_function : {name name' : Name} {path path' : List Name} {number number' : ℕ} → name ≡ name' → path ≡ path' → number ≡ number'
+same_function : {name name' : Name} {path path' : List Name} {number number' : ℕ} → name ≡ name' → path ≡ path'
+    → number ≡ number'
     → deed_of.Function name path number ≡ deed_of.Function name' path' number'
 same_function p q r = cc
 
-same_method : {name name' last last' : Name} {path path' : List Name} {number number' : ℕ} {deed : Deed} → name ≡ name' → path ≡ path'
+same_method : {name name' last last' : Name} {path path' : List Name} {number number' : ℕ} {deed : Deed} → name ≡ name'
+    → path ≡ path'
     → last ≡ last' → number ≡ number' → deed ≡ deed_of.Function name' (path' ++ last' ∷ []) number'
     → deed_of.Function name (path ++ last ∷ []) number ≡ deed
 same_method p q r s is = cc
@@ -48,7 +56,8 @@ no_statements_once e stats' z s =
     let (is, end) = block_at e refl s in
     (sym is, sym end)
 
-pub last_statement_once : {rules : Rules} {c : Context} {last : Stat} {i j : Position} → Unique rules c (thing.last last) i j
+pub last_statement_once : {rules : Rules} {c : Context} {last : Stat} {i j : Position}
+    → Unique rules c (thing.last last) i j
     → ends_block (at.kind j) ≡ true → begins_last (at.kind i) ≡ true → Unique rules c (thing.block (last ∷ [])) i j
 last_statement_once x e first stats' z s =
     let (last', is, x', e') = block_at (last_goes_on _ first) first s in
@@ -56,7 +65,8 @@ last_statement_once x e first stats' z s =
     (ap (λ (stat : Stat). stat ∷ []) same ∙ sym is, end)
 
 pub more_statements_once : {rules : Rules} {c : Context} {stat : Stat} {stats : List Stat} {i j k : Position}
-    → Unique rules c (thing.statement stat) i j → Unique rules c (thing.block stats) j k → begins_deed (at.kind i) ≡ true
+    → Unique rules c (thing.statement stat) i j → Unique rules c (thing.block stats) j k
+    → begins_deed (at.kind i) ≡ true
     → Unique rules c (thing.block (stat ∷ stats)) i k
 more_statements_once x xs first stats' z s =
     let (stat', rest', k', is, x', xs') = block_at (statements_go_on _ first) (statements_are_not_last _ first) s in
@@ -65,14 +75,16 @@ more_statements_once x xs first stats' z s =
     (ap₂ ◌∷◌ same rest ∙ sym is, end)
 
 pub statement_once : {rules : Rules} {c : Context} {line : ℕ} {deed : Deed} {i j k : Position} → line ≡ at.line i
-    → Unique rules c (thing.deed deed) i j → at.PassesSemicolon j k → Unique rules c (thing.statement (stat_of line deed)) i k
+    → Unique rules c (thing.deed deed) i j → at.PassesSemicolon j k
+    → Unique rules c (thing.statement (stat_of line deed)) i k
 statement_once l x p stat' z s =
     let (deed', k', is, x', p') = form s in
     let (same, to) = x _ _ x' in
     (ap₂ stat_of l same ∙ sym is, p.taken ∙ ap behind_semicolon to ∙ sym p'.taken)
 
 pub last_once : {rules : Rules} {c : Context} {line : ℕ} {deed : Deed} {i j k : Position} → line ≡ at.line i
-    → Unique rules c (thing.last_deed deed) i j → at.PassesSemicolon j k → Unique rules c (thing.last (stat_of line deed)) i k
+    → Unique rules c (thing.last_deed deed) i j → at.PassesSemicolon j k
+    → Unique rules c (thing.last (stat_of line deed)) i k
 last_once l x p stat' z s =
     let (deed', k', is, x', p') = form s in
     let (same, to) = x _ _ x' in
@@ -90,7 +102,8 @@ return_nothing_once t e deed' z s =
     let (is, end) = return_at t.seen (ends_at t.taken e) s in
     (sym is, t.taken ∙ sym end)
 
-pub return_values_once : {rules : Rules} {c : Context} {es : List Expr} {deed : Deed} {i j k : Position} → Takes kind.Return i j
+pub return_values_once : {rules : Rules} {c : Context} {es : List Expr} {deed : Deed} {i j k : Position}
+    → Takes kind.Return i j
     → ends_return (at.kind j) ≡ false → Unique rules c (thing.list es) j k → IsReturn es deed
     → Unique rules c (thing.last_deed deed) i k
 return_values_once {deed = deed} t e x r deed' z s =
@@ -99,7 +112,8 @@ return_values_once {deed = deed} t e x r deed' z s =
     (same_return (subst (λ (es : List Expr). IsReturn es deed) same r) r', end)
 
 -- ---- statements
-pub do_block_once : {rules : Rules} {c : Context} {block : List Stat} {i j k l : Position} → Takes kind.Do i j → HasRoom rules c
+pub do_block_once : {rules : Rules} {c : Context} {block : List Stat} {i j k l : Position} → Takes kind.Do i j
+    → HasRoom rules c
     → Unique rules (context.inner c) (thing.block block) j k → Takes kind.End k l
     → Unique rules c (thing.deed (deed_of.Do block)) i l
 do_block_once t r x u deed' z s =
@@ -107,7 +121,8 @@ do_block_once t r x u deed' z s =
     let (same, to) = x _ _ (moved (sym t.taken) x') in
     (ap deed_of.Do same ∙ sym is, onward u.taken to u'.taken)
 
-pub while_loop_once : {rules : Rules} {c : Context} {e : Expr} {block : List Stat} {i j k l : Position} → Takes kind.While i j
+pub while_loop_once : {rules : Rules} {c : Context} {e : Expr} {block : List Stat} {i j k l : Position}
+    → Takes kind.While i j
     → Unique rules c (thing.expression e) j k → Unique rules c (thing.loop_block block) k l
     → Unique rules c (thing.deed (deed_of.While e block)) i l
 while_loop_once t x y deed' z s =
@@ -117,7 +132,8 @@ while_loop_once t x y deed' z s =
     (ap₂ deed_of.While same same_block ∙ sym is, end)
 
 pub repeat_loop_once : {rules : Rules} {c : Context} {e : Expr} {block : List Stat} {i j k l m : Position}
-    → Takes kind.Repeat i j → HasRoom rules c → Unique rules (context.looped c) (thing.block block) j k → Takes kind.Until k l
+    → Takes kind.Repeat i j → HasRoom rules c → Unique rules (context.looped c) (thing.block block) j k
+    → Takes kind.Until k l
     → Unique rules c (thing.expression e) l m → Unique rules c (thing.deed (deed_of.Repeat block e)) i m
 repeat_loop_once t r x u y deed' z s =
     let (block', e', k', l', is, r', x', u', y') = deed_at t.seen s in
@@ -161,13 +177,15 @@ branch_once x t r y branch' z s =
     let (same_block, end) = y _ _ (moved (sym (onward t.taken to t'.taken)) y') in
     (ap₂ branch_of same same_block ∙ sym is, end)
 
-pub no_else_once : {rules : Rules} {c : Context} {i : Position} → SeesNot kind.Else i → Unique rules c (thing.otherwise []) i i
+pub no_else_once : {rules : Rules} {c : Context} {i : Position} → SeesNot kind.Else i
+    → Unique rules c (thing.otherwise []) i i
 no_else_once n block' z s =
     let (is, end) = (form s).1 n in
     (sym is, sym end)
 
 pub else_block_once : {rules : Rules} {c : Context} {block : List Stat} {i j k : Position} → Takes kind.Else i j
-    → HasRoom rules c → Unique rules (context.inner c) (thing.block block) j k → Unique rules c (thing.otherwise block) i k
+    → HasRoom rules c → Unique rules (context.inner c) (thing.block block) j k
+    → Unique rules c (thing.otherwise block) i k
 else_block_once t r x block' z s =
     let (r', x') = (form s).0 t.seen in
     x _ _ (moved (sym t.taken) x')
@@ -191,7 +209,8 @@ numeric_for_once t u x v y st b deed' z s =
     let (same_block, end) = b _ _ (moved (sym further) b') in
     (same_for t.name_is same_begin same_limit same_step same_block ∙ sym is, end)
 
-pub no_step_once : {rules : Rules} {c : Context} {i : Position} → SeesNot kind.Comma i → Unique rules c (thing.step None) i i
+pub no_step_once : {rules : Rules} {c : Context} {i : Position} → SeesNot kind.Comma i
+    → Unique rules c (thing.step None) i i
 no_step_once n step' z s =
     let (is, end) = (form s).1 n in
     (sym is, sym end)
@@ -203,7 +222,8 @@ step_once t x step' z s =
     let (same, end) = x _ _ (moved (sym t.taken) x') in
     (ap (λ (e : Expr). Some e) same ∙ sym is, end)
 
-pub generic_for_once : {rules : Rules} {c : Context} {names : List Name} {es : List Expr} {block : List Stat} {i j k l m : Position}
+pub generic_for_once : {rules : Rules} {c : Context} {names : List Name} {es : List Expr} {block : List Stat}
+    {i j k l m : Position}
     → Unique rules c (thing.names names) i j → Takes kind.In j k → Unique rules c (thing.list es) k l
     → Unique rules c (thing.loop_block block) l m → SeesNot kind.Assign (at.next i)
     → Unique rules c (thing.for_range (deed_of.ForIn names es block)) i m
@@ -250,12 +270,14 @@ method_statement_once l t n p u m x deed' z s =
     let (same, end) = x _ _ (on_line (sym l) (moved (sym behind) x')) in
     (same_method same_name same_path same_last same is, end)
 
-pub no_path_once : {rules : Rules} {c : Context} {i : Position} → SeesNot kind.Dot i → Unique rules c (thing.path []) i i
+pub no_path_once : {rules : Rules} {c : Context} {i : Position} → SeesNot kind.Dot i
+    → Unique rules c (thing.path []) i i
 no_path_once n path' z s =
     let (is, end) = (form s).1 n in
     (sym is, sym end)
 
-pub more_path_once : {rules : Rules} {c : Context} {n : Name} {path : List Name} {i j k l : Position} → Takes kind.Dot i j
+pub more_path_once : {rules : Rules} {c : Context} {n : Name} {path : List Name} {i j k l : Position}
+    → Takes kind.Dot i j
     → TakesName n j k → Unique rules c (thing.path path) k l → Unique rules c (thing.path (n ∷ path)) i l
 more_path_once t n p path' z s =
     let (name', rest', k', is, n', p') = (form s).0 t.seen in
@@ -274,7 +296,8 @@ local_function_once t l u n x deed' z s =
     let (same, end) = x _ _ (on_line (sym (l ∙ ap at.line t.taken)) (moved (sym to) x')) in
     (ap₂ deed_of.LocalFunction same_name same ∙ sym is, end)
 
-pub local_once : {rules : Rules} {c : Context} {names : List Name} {es : List Expr} {i j k l : Position} → Takes kind.Local i j
+pub local_once : {rules : Rules} {c : Context} {names : List Name} {es : List Expr} {i j k l : Position}
+    → Takes kind.Local i j
     → Unique rules c (thing.names names) j k → Unique rules c (thing.values es) k l → SeesNot kind.Function j
     → Unique rules c (thing.deed (deed_of.Local names es)) i l
 local_once t x y no_function deed' z s =
@@ -283,7 +306,8 @@ local_once t x y no_function deed' z s =
     let (same, end) = y _ _ (moved (sym to) y') in
     (ap₂ deed_of.Local same_names same ∙ sym is, end)
 
-pub no_values_once : {rules : Rules} {c : Context} {i : Position} → SeesNot kind.Assign i → Unique rules c (thing.values []) i i
+pub no_values_once : {rules : Rules} {c : Context} {i : Position} → SeesNot kind.Assign i
+    → Unique rules c (thing.values []) i i
 no_values_once n es' z s =
     let (is, end) = (form s).1 n in
     (sym is, sym end)

@@ -21,7 +21,7 @@ use Rattle.lua_grammar.specs.Things as thing
 use Rattle.lua_grammar.specs.Parts.{suffixed}
 use Rattle.lua_grammar.specs.Grammar as by
 use Rattle.lua_grammar.specs.Grammar.{Spelled}
-use Rattle.lua_grammar.specs.Rows.{begins_chain}
+use Rattle.lua_grammar.specs.Productions.{begins_chain}
 use Rattle.lua_grammar.specs.Classes as class
 use Rattle.lua_grammar.specs.Classes.{Reads}
 use Rattle.lua_grammar.proofs.Forms.{ChainDeedForm, TargetForm}
@@ -30,19 +30,31 @@ use Rattle.lua_grammar.proofs.Inversions.{moved, takes_at, unseen_at, form, chai
 use Rattle.lua_grammar.proofs.Unique.{Unique, onward}
 
 -- a target is a chain that is no call
-pub target_chain : {rules : Rules} {c : Context} {target : Target} {i z : Position} → Spelled rules c (thing.target target) i z
+pub target_chain : {rules : Rules} {c : Context} {target : Target} {i z : Position}
+    → Spelled rules c (thing.target target) i z
     → Reads rules c (class.own_chain class.target) i z
 target_chain (by.name_target x) = ((_, [], ((λ e. (_, refl)), (λ (ss, how, e). nothing_is_end ss _ e))), x)
-target_chain (by.row_target ss x e) =
-    ((_, _, ((λ none. absurd (nothing_is_end ss _ (sym none ∙ e))), (λ (before, how, e'). no_call (same_from_push ss before _ _ (sym e ∙ e')).1))), x)
+target_chain (by.index_target ss x e) = (
+  (
+    _,
+    _,
+    (
+      (λ none. absurd (nothing_is_end ss _ (sym none ∙ e))),
+      (λ (before, how, e'). no_call (same_from_push ss before _ _ (sym e ∙ e')).1),
+    ),
+  ),
+  x,
+)
 
-pub targets_chain : {rules : Rules} {c : Context} {targets : List Target} {i z : Position} → Spelled rules c (thing.targets targets) i z
+pub targets_chain : {rules : Rules} {c : Context} {targets : List Target} {i z : Position}
+    → Spelled rules c (thing.targets targets) i z
     → (k : Position) × Reads rules c (class.own_chain class.target) i k
 targets_chain (by.one_target x n) = (_, target_chain x)
 targets_chain (by.more_targets x t xs) = (_, target_chain x)
 
 assigned : {rules : Rules} {c : Context} {targets : List Target} {es : List Expr} {i j k l z : Position} {deed : Deed}
-    → Unique rules c (thing.targets targets) i j → Takes kind.Assign j k → Unique rules c (thing.list es) k l → ChainDeedForm rules c deed i z
+    → Unique rules c (thing.targets targets) i j → Takes kind.Assign j k → Unique rules c (thing.list es) k l
+    → ChainDeedForm rules c deed i z
     → (deed_of.Assign targets es ≡ deed) × (l ≡ z)
 assigned x t y (inl (targets', es', k', l', is, x', t', y')) =
     let (same_targets, to) = x.0 _ _ x' in
@@ -50,8 +62,10 @@ assigned x t y (inl (targets', es', k', l', is, x', t', y')) =
     (ap₂ deed_of.Assign same_targets same ∙ sym is, end)
 assigned x t y (inr (head, all, suffixes, how, is, x', e)) = absurd (x.1 head all suffixes how _ x' e)
 
-called : {rules : Rules} {c : Context} {head : Expr} {all : List Suffix} {how : Call} {i j z : Position} {deed : Deed} (suffixes : List Suffix)
-    → Unique rules c (thing.own_chain head all) i j → all ≡ suffixes ++ suffix_of.Call how ∷ [] → ChainDeedForm rules c deed i z
+called : {rules : Rules} {c : Context} {head : Expr} {all : List Suffix} {how : Call} {i j z : Position} {deed : Deed}
+    (suffixes : List Suffix)
+    → Unique rules c (thing.own_chain head all) i j → all ≡ suffixes ++ suffix_of.Call how ∷ []
+    → ChainDeedForm rules c deed i z
     → (deed_of.Call (suffixed head suffixes) how ≡ deed) × (j ≡ z)
 called {how = how} suffixes x e (inl (targets', es', k', l', is, x', t', y')) =
     let (m, ((head', all', sought), s)) = targets_chain x' in
@@ -63,7 +77,8 @@ called suffixes x e (inr (head', all', suffixes', how', is, x', e')) =
     (ap₂ deed_of.Call (ap₂ suffixed same front) (same_call last) ∙ sym is, end)
 
 name_targeted : {rules : Rules} {c : Context} {n : Name} {i j z : Position} {target : Target}
-    → Unique rules c (thing.own_chain (expr.Name n) []) i j → TargetForm rules c target i z → (target_of.Name n ≡ target) × (j ≡ z)
+    → Unique rules c (thing.own_chain (expr.Name n) []) i j → TargetForm rules c target i z
+    → (target_of.Name n ≡ target) × (j ≡ z)
 name_targeted x (head, all, x', inl (n', h, e, is)) =
     let (same, rest, end) = x _ _ _ x' in
     (ap target_of.Name (same_name (same ∙ h)) ∙ sym is, end)
@@ -71,16 +86,17 @@ name_targeted x (head, all, x', inr (suffixes, k, e, is)) =
     let (same, rest, end) = x _ _ _ x' in
     absurd (nothing_is_end suffixes _ (rest ∙ e))
 
-row_targeted : {rules : Rules} {c : Context} {head : Expr} {all : List Suffix} {k : Key} {i j z : Position} {target : Target}
+index_targeted : {rules : Rules} {c : Context} {head : Expr} {all : List Suffix} {k : Key} {i j z : Position}
+    {target : Target}
     (suffixes : List Suffix) → Unique rules c (thing.own_chain head all) i j → all ≡ suffixes ++ suffix_of.Key k ∷ []
-    → TargetForm rules c target i z → (target_of.Row (suffixed head suffixes) k ≡ target) × (j ≡ z)
-row_targeted suffixes x e (head', all', x', inl (n', h, e', is)) =
+    → TargetForm rules c target i z → (target_of.Index (suffixed head suffixes) k ≡ target) × (j ≡ z)
+index_targeted suffixes x e (head', all', x', inl (n', h, e', is)) =
     let (same, rest, end) = x _ _ _ x' in
     absurd (nothing_is_end suffixes _ (sym e' ∙ sym rest ∙ e))
-row_targeted suffixes x e (head', all', x', inr (suffixes', k', e', is)) =
+index_targeted suffixes x e (head', all', x', inr (suffixes', k', e', is)) =
     let (same, rest, end) = x _ _ _ x' in
     let (front, last) = same_from_push suffixes suffixes' _ _ (sym e ∙ rest ∙ e') in
-    (ap₂ target_of.Row (ap₂ suffixed same front) (same_key last) ∙ sym is, end)
+    (ap₂ target_of.Index (ap₂ suffixed same front) (same_key last) ∙ sym is, end)
 
 pub assign_once : {rules : Rules} {c : Context} {targets : List Target} {es : List Expr} {i j k l : Position}
     → Unique rules c (thing.targets targets) i j → Takes kind.Assign j k → Unique rules c (thing.list es) k l
@@ -121,12 +137,12 @@ name_target_once x = (
       nothing_is_end suffixes _ (rest ∙ e),
 )
 
-pub row_target_once : {rules : Rules} {c : Context} {head : Expr} {all : List Suffix} {k : Key}
+pub index_target_once : {rules : Rules} {c : Context} {head : Expr} {all : List Suffix} {k : Key}
     {i j : Position} (suffixes : List Suffix)
     → Unique rules c (thing.own_chain head all) i j → all ≡ suffixes ++ suffix_of.Key k ∷ []
-    → Unique rules c (thing.target (target_of.Row (suffixed head suffixes) k)) i j
-row_target_once suffixes x e = (
-  λ target' z s. row_targeted suffixes x e (form s),
+    → Unique rules c (thing.target (target_of.Index (suffixed head suffixes) k)) i j
+index_target_once suffixes x e = (
+  λ target' z s. index_targeted suffixes x e (form s),
   λ head all suffixes' how z s e'.
       let (same, rest, to) = x _ _ _ s in
       no_call (same_from_push suffixes suffixes' _ _ (sym e ∙ rest ∙ e')).1,

@@ -1,5 +1,6 @@
 -- Words stop on one line, and with one fault, at most; and nowhere if they have a tree.
-use Rattle.std.proofs.Common.{◌≡◌, ◌⊎◌, inl, inr, ℕ, zero, suc, ◌<◌, ◌≤◌, true, List, [], ◌∷◌, ◌++◌, length, take, get_or, refl, sym, ap, ap₂, ◌∙◌, subst, arith}
+use Rattle.std.proofs.Common.{◌≡◌, ◌⊎◌, inl, inr, ℕ, zero, suc, ◌<◌, ◌≤◌, true, List, [], ◌∷◌, ◌++◌, length, take}
+use Rattle.std.proofs.Common.{get_or, refl, sym, ap, ap₂, ◌∙◌, subst, arith}
 use Rattle.std.proofs.lemmas.List.{append_assoc, append-nil, append_cancel_left, length-append, take_at}
 use Rattle.std.proofs.lemmas.Bool.{le-leb, leb-true, cases_lt}
 use Rattle.lua_grammar.specs.declared.kinds.SyntaxKind.{SyntaxKind}
@@ -15,7 +16,8 @@ use Rattle.lua_grammar.proofs.Exact.{fewer_rules}
 -- ---- one kind of fault
 
 abbrev ranked : ℕ → SyntaxKind
-ranked n = get_or (fault.Unexpected ∷ fault.Ambiguous ∷ fault.TooDeep ∷ fault.TooLong ∷ fault.NoLoop ∷ fault.NoVararg ∷ []) n fault.Unexpected
+ranked n = get_or (fault.Unexpected ∷ fault.Ambiguous ∷ fault.TooDeep ∷ fault.TooLong ∷ fault.NoLoop ∷ fault.NoVararg
+    ∷ []) n fault.Unexpected
 
 rank_names : (f : SyntaxKind) → ranked (rank f) ≡ f
 rank_names fault.Unexpected = refl
@@ -65,7 +67,8 @@ shorter (w ∷ front) back (w' ∷ front') back' e less =
     (more, ap₂ (λ (word : Word) (l : List Word). word ∷ l) (sym words) same)
 
 -- what begins a text is not longer than what stands before a word with which nothing begins one
-no_longer : (front back first rest : List Word) (w : Word) → front ++ w ∷ back ≡ first ++ rest → (Begins every_rule (front ++ w ∷ []) → ⊥)
+no_longer : (front back first rest : List Word) (w : Word) → front ++ w ∷ back ≡ first ++ rest
+    → (Begins every_rule (front ++ w ∷ []) → ⊥)
     → Begins every_rule first → length first ≤ length front
 no_longer front back first rest w e none b = by_order (cases_lt (length front) (length first))
   where
@@ -85,29 +88,49 @@ same_place front back front' back' w w' e lengths =
     let words : w ≡ w' = cc in
     (words, fronts)
 
-not_at_end : (words front back : List Word) (w : Word) → words ≡ front ++ w ∷ back → (Begins every_rule (front ++ w ∷ []) → ⊥)
+not_at_end : (words front back : List Word) (w : Word) → words ≡ front ++ w ∷ back
+    → (Begins every_rule (front ++ w ∷ []) → ⊥)
     → Begins every_rule words → ⊥
 not_at_end words front back w e none b =
-    omega (arith, no_longer front back words [] w (sym e ∙ sym (append-nil words)) none b, ap length e, length-append front (w ∷ back))
+    omega (
+      arith,
+      no_longer front back words [] w (sym e ∙ sym (append-nil words)) none b,
+      ap length e,
+      length-append front (w ∷ back),
+    )
 
 -- ---- no stop
 
 pub no_stop : {words : List Word} {last_line line : ℕ} {kind : SyntaxKind} (block : List Stat) (bodies : List Body)
     → IsTree every_rule words block bodies → StopsAt words last_line line kind → ⊥
 no_stop block bodies tree (at_word front back word kind e before none is) =
-    none (back, block, bodies, subst (λ ws. IsTree every_rule ws block bodies) (e ∙ sym (append_assoc front (word ∷ []) back)) tree)
+    none (
+      back,
+      block,
+      bodies,
+      subst (λ ws. IsTree every_rule ws block bodies)
+          (e ∙ sym (append_assoc front (word ∷ []) back)) tree,
+    )
 no_stop block bodies tree (at_end before none) = none block bodies tree
 
 -- ---- one stop
 
-pub one_stop : {words : List Word} {last_line line line' : ℕ} {kind kind' : SyntaxKind} → StopsAt words last_line line kind
+pub one_stop : {words : List Word} {last_line line line' : ℕ} {kind kind' : SyntaxKind}
+    → StopsAt words last_line line kind
     → StopsAt words last_line line' kind' → (line ≡ line') × (kind ≡ kind')
 one_stop (at_word front back w f e b none is) (at_word front' back' w' f' e' b' none' is') =
     let same = sym e ∙ e' in
     let (words, fronts) = same_place front back front' back' w w' same
-    (omega (arith, no_longer front back front' (w' ∷ back') w same none b', no_longer front' back' front (w ∷ back) w' (sym same) none' b)) in
+    (omega (
+      arith,
+      no_longer front back front' (w' ∷ back') w same none b',
+      no_longer front' back' front (w ∷ back) w'
+          (sym same) none' b,
+    )) in
     let ends = ap₂ (λ (l : List Word) (word : Word). l ++ word ∷ []) fronts words in
     (ap (λ (word : Word). word.line) words, one_fault f f' (front' ++ w' ∷ []) (subst (FaultIs (rank f)) ends is) is')
-one_stop {words} (at_word front back w f e b none is) (at_end b' none') = absurd (not_at_end words front back w e none b')
-one_stop {words} (at_end b none) (at_word front back w f e b' none' is) = absurd (not_at_end words front back w e none' b)
+one_stop {words} (at_word front back w f e b none is) (at_end b' none') =
+    absurd (not_at_end words front back w e none b')
+one_stop {words} (at_end b none) (at_word front back w f e b' none' is) =
+    absurd (not_at_end words front back w e none' b)
 one_stop (at_end b none) (at_end b' none') = (refl, refl)

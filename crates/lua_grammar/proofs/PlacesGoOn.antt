@@ -15,33 +15,46 @@ use Rattle.lua_grammar.specs.Classes as class
 use Rattle.lua_grammar.specs.Classes.{Class, Reads}
 use Rattle.lua_grammar.proofs.Continuations.{instead, lead, MayFollow, GoesOn}
 use Rattle.lua_grammar.proofs.Instead.{words_from}
-use Rattle.lua_grammar.proofs.Least.{word_of, front_kind, next_words, takes_front, nil_words, nil_expression, ReadsTo, least_function_body, body_words}
+use Rattle.lua_grammar.proofs.Least.{word_of, front_kind, next_words, takes_front, nil_words, nil_expression, ReadsTo}
+use Rattle.lua_grammar.proofs.Least.{least_function_body, body_words}
 
 -- ---- completions
 
 abbrev pub Completion : Rules → Context → Class → ℕ → Position → List Word → Type 0
-Completion rules c k n i t = (more : List Word) × (j : Position) × Reads rules c k (instead n (more ++ t) i) j × (j.words ≡ t)
+Completion rules c k n i t = (more : List Word) × (j : Position) × Reads rules c k (instead n (more ++ t) i) j
+    × (j.words ≡ t)
 
-pub longer : {rules : Rules} {c : Context} (k : Class) (n : ℕ) (i : Position) {j : Position} {words t : List Word} (more : List Word)
+pub longer : {rules : Rules} {c : Context} (k : Class) (n : ℕ) (i : Position) {j : Position} {words t : List Word}
+    (more : List Word)
     → words ≡ more ++ t → Reads rules c k (instead n words i) j → j.words ≡ t → Completion rules c k n i t
-longer {rules} {c} k n i {j} more e x end = (more, j, subst (λ (ws : List Word). Reads rules c k (instead n ws i) j) e x, end)
+longer {rules} {c} k n i {j} more e x end =
+    (more, j, subst (λ (ws : List Word). Reads rules c k (instead n ws i) j) e x, end)
 
 -- ---- the shortest words, where there is room by these rules
 
 pub table_at : {rules : Rules} {c : Context} (i : Position) {t : List Word} → HasRoom rules c → Sees kind.LeftBrace i
     → (at.next i).words ≡ word_of kind.RightBrace ∷ t → ReadsTo rules c class.constructor i t
 table_at i room seen e =
-    let j = at.next i in
-    (at.next j, ([], by.constructor (record { seen = seen; taken = refl }) room (by.no_fields (front_kind j e)) (takes_front j e)), next_words j e)
+    let j = at.next i in (
+      at.next j,
+      (
+        [],
+        by.constructor (record { seen = seen; taken = refl }) room (by.no_fields (front_kind j e))
+            (takes_front j e),
+      ),
+      next_words j e,
+    )
 
-pub parenthesis_at : {rules : Rules} {c : Context} (i : Position) {t : List Word} → HasRoom rules c → Sees kind.LeftParen i
+pub parenthesis_at : {rules : Rules} {c : Context} (i : Position) {t : List Word} → HasRoom rules c
+    → Sees kind.LeftParen i
     → (at.next i).words ≡ nil_words ++ word_of kind.RightParen ∷ t → ReadsTo rules c class.head i t
 parenthesis_at i room seen e =
     let (j, x, e') = nil_expression (at.next i) e (refl, refl) in
     (_, (_, by.parenthesis (record { seen = seen; taken = refl }) room x.1 (takes_front j e')), next_words j e')
 
 -- a body behind the name
-pub bodied : {rules : Rules} {c : Context} {name : Name} {path : List Name} {i j k l : Position} {t : List Word} → HasRoom rules c
+pub bodied : {rules : Rules} {c : Context} {name : Name} {path : List Name} {i j k l : Position} {t : List Word}
+    → HasRoom rules c
     → Takes kind.Function i j → TakesName name j k → Spelled rules c (thing.path path) k l → l.words ≡ body_words ++ t
     → ReadsTo rules c class.deed i t
 bodied {i = i} {l = l} room u x p e =

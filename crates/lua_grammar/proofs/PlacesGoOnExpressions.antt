@@ -1,5 +1,6 @@
 -- Words that stop inside an expression go on to it.
-use Rattle.std.proofs.Common.{◌≡◌, ◌⊎◌, inl, inr, ℕ, suc, ◌<◌, ◌≤◌, true, false, List, [], ◌∷◌, ◌++◌, length, Option, Some, None, option_and_then, is_some, IsSome, refl, ap, ◌∙◌, subst, arith}
+use Rattle.std.proofs.Common.{◌≡◌, ◌⊎◌, inl, inr, ℕ, suc, ◌<◌, ◌≤◌, true, false, List, [], ◌∷◌, ◌++◌, length, Option}
+use Rattle.std.proofs.Common.{Some, None, option_and_then, is_some, IsSome, refl, ap, ◌∙◌, subst, arith}
 use Rattle.std.proofs.Math.Nat.{eq-or-lt_of_le}
 use Rattle.lua_lex.specs.declared.kinds.TokenKind.{TokenKind}
 use Rattle.lua_lex.specs.declared.kinds.TokenKind.TheVariants as kind
@@ -26,34 +27,48 @@ use Rattle.lua_grammar.proofs.Least.{word_of, nil_words, nil_operand, body_words
 use Rattle.lua_grammar.proofs.PlacesGoOn.{table_at, parenthesis_at}
 use Rattle.lua_grammar.proofs.Unique.{resumed}
 
-pub expression_goes_on : {rules : Rules} {c : Context} (n : ℕ) (i : Position) → GoesOn rules c (class.operand 1) n (fresh i)
+pub expression_goes_on : {rules : Rules} {c : Context} (n : ℕ) (i : Position)
+    → GoesOn rules c (class.operand 1) n (fresh i)
     → GoesOn rules c class.expression n i
 expression_goes_on n i g t follow =
     let (more, j, x, end) = g t (λ e. follow e) in
     (more, resumed i j, (x.0, by.expression (record { begun = refl }) x.1 (record { resumed = refl })), end)
 
 -- an operator, and nil
-operator_goes_on : {rules : Rules} {c : Context} {sign : Unary} (n : ℕ) (i : Position) (rank : ℕ) → (7 ≡ rank) ⊎ (8 ≡ rank)
+operator_goes_on : {rules : Rules} {c : Context} {sign : Unary} (n : ℕ) (i : Position) (rank : ℕ)
+    → (7 ≡ rank) ⊎ (8 ≡ rank)
     → at.sign i ≡ Some sign → suc n ≡ length i.words → HasRoom rules c → GoesOn rules c (class.operand rank) n i
 operator_goes_on {rules} {c} {sign} n i rank is s e room t follow =
     let p = instead n (nil_words ++ t) i in
     let shown : Shown i n (nil_words ++ t) = inl (omega (arith, e)) in
     let seen : at.sign p ≡ Some sign = sign_shown i shown ∙ s in
     let some : IsSome (at.kind p) = ap is_some (kind_shown i shown) ∙ signed (at.kind i) s in
-    let (j, x, end) = nil_operand {rules = rules} {c = context.inner c} (at.next p) 7 (omega arith) (behind_word n (nil_words ++ t) i e) (follow expr.Nil) in
-    let passes : Passes p (at.next p) = record { some = some; taken = refl } in
-    (nil_words, j, (expr.Unary sign x.0, of_rank is (by.unary seen passes room x.1) (by.unary_exponent seen passes room x.1)), end) where
+    let (j, x, end) = nil_operand {rules = rules} {c = context.inner c} (at.next p) 7 (omega arith)
+    (behind_word n (nil_words ++ t) i e) (follow expr.Nil) in
+    let passes : Passes p (at.next p) = record { some = some; taken = refl } in (
+      nil_words,
+      j,
+      (
+        expr.Unary sign x.0,
+        of_rank is (by.unary seen passes room x.1)
+            (by.unary_exponent seen passes room x.1),
+      ),
+      end,
+    ) where
       signed : (w : Option TokenKind) → option_and_then unary_operator w ≡ Some sign → is_some w ≡ true
       signed None e = cc
       signed (Some k) e = refl
 
-      of_rank : {x : Expr} {i j : Position} {rank : ℕ} → (7 ≡ rank) ⊎ (8 ≡ rank) → Spelled rules c (thing.operand 7 x) i j
+      of_rank : {x : Expr} {i j : Position} {rank : ℕ} → (7 ≡ rank) ⊎ (8 ≡ rank)
+          → Spelled rules c (thing.operand 7 x) i j
           → Spelled rules c (thing.operand 8 x) i j → Spelled rules c (thing.operand rank x) i j
       of_rank {x} {i} {j} (inl e) y z = subst (λ (r : ℕ). Spelled rules c (thing.operand r x) i j) e y
       of_rank {x} {i} {j} (inr e) y z = subst (λ (r : ℕ). Spelled rules c (thing.operand r x) i j) e z
 
-pub unary_level_goes_on : {c : Context} {rank : ℕ} {sign : Unary} (i : Position) → 7 ≤ rank → rank ≤ 8 → at.sign i ≡ Some sign
-    → {rules : Rules} {n : ℕ} → Mode fault.TooDeep i rules n → n < length i.words → GoesOn rules c (class.operand rank) n i
+pub unary_level_goes_on : {c : Context} {rank : ℕ} {sign : Unary} (i : Position) → 7 ≤ rank → rank ≤ 8
+    → at.sign i ≡ Some sign
+    → {rules : Rules} {n : ℕ} → Mode fault.TooDeep i rules n → n < length i.words
+    → GoesOn rules c (class.operand rank) n i
 unary_level_goes_on i low high s before less = absurd (omega (arith, less))
 unary_level_goes_on {c} {rank} i low high s {rules} {n} (with_word r e) less =
     operator_goes_on n i rank (seven_or_eight (eq-or-lt_of_le low)) s e (free fault.TooDeep r _) where
@@ -66,7 +81,8 @@ pub simple_goes_on : {rules : Rules} {c : Context} {n : ℕ} (i : Position) → 
 simple_goes_on i e m less = absurd (nothing_seen m i (omega arith) less)
 
 -- function ( ) end
-function_goes_on : {rules : Rules} {c : Context} (n : ℕ) (i : Position) → Sees kind.Function i → suc n ≡ length i.words → HasRoom rules c
+function_goes_on : {rules : Rules} {c : Context} (n : ℕ) (i : Position) → Sees kind.Function i → suc n ≡ length i.words
+    → HasRoom rules c
     → GoesOn rules c class.simple n i
 function_goes_on n i s e room t follow =
     let p = instead n (body_words ++ t) i in
@@ -78,7 +94,8 @@ abbrev table_words : List Word
 table_words = word_of kind.RightBrace ∷ []
 
 -- { }
-constructor_goes_on : {rules : Rules} {c : Context} (n : ℕ) (i : Position) → Sees kind.LeftBrace i → suc n ≡ length i.words → HasRoom rules c
+constructor_goes_on : {rules : Rules} {c : Context} (n : ℕ) (i : Position) → Sees kind.LeftBrace i
+    → suc n ≡ length i.words → HasRoom rules c
     → GoesOn rules c class.constructor n i
 constructor_goes_on n i s e room t follow =
     let p = instead n (table_words ++ t) i in
@@ -90,7 +107,8 @@ abbrev parenthesis_words : List Word
 parenthesis_words = nil_words ++ word_of kind.RightParen ∷ []
 
 -- ( nil )
-parenthesis_goes_on : {rules : Rules} {c : Context} (n : ℕ) (i : Position) → Sees kind.LeftParen i → suc n ≡ length i.words → HasRoom rules c
+parenthesis_goes_on : {rules : Rules} {c : Context} (n : ℕ) (i : Position) → Sees kind.LeftParen i
+    → suc n ≡ length i.words → HasRoom rules c
     → GoesOn rules c class.simple n i
 parenthesis_goes_on n i s e room t follow =
     let p = instead n (parenthesis_words ++ t) i in
@@ -98,12 +116,14 @@ parenthesis_goes_on n i s e room t follow =
     let (j, x, end) = parenthesis_at p room seen (behind_word n (parenthesis_words ++ t) i e) in
     (parenthesis_words, j, (x.0, by.prefix (by.chain x.1 (no_suffixes j end (follow expr.Nil)))), end)
 
-table_goes_on : {rules : Rules} {c : Context} (n : ℕ) (i : Position) → GoesOn rules c class.constructor n i → GoesOn rules c class.simple n i
+table_goes_on : {rules : Rules} {c : Context} (n : ℕ) (i : Position) → GoesOn rules c class.constructor n i
+    → GoesOn rules c class.simple n i
 table_goes_on n i g t follow =
     let (more, j, x, end) = g t (λ x. tt) in
     (more, j, (expr.Table x.0, by.table x.1), end)
 
-nested_goes_on : {rules : Rules} {c : Context} (n : ℕ) (i : Position) (w : Option TokenKind) → at.kind i ≡ w → nests_simple w ≡ true
+nested_goes_on : {rules : Rules} {c : Context} (n : ℕ) (i : Position) (w : Option TokenKind) → at.kind i ≡ w
+    → nests_simple w ≡ true
     → suc n ≡ length i.words → HasRoom rules c → GoesOn rules c class.simple n i
 nested_goes_on n i (Some kind.Function) s h e room = function_goes_on n i s e room
 nested_goes_on n i (Some kind.LeftBrace) s h e room = table_goes_on n i (constructor_goes_on n i s e room)
@@ -124,5 +144,9 @@ pub varargs_goes_on : {c : Context} (i : Position) → Sees kind.Dots i
     → {rules : Rules} {n : ℕ} → Mode fault.NoVararg i rules n → n < length i.words → GoesOn rules c class.simple n i
 varargs_goes_on i s before less = absurd (omega (arith, less))
 varargs_goes_on i s {n = n} (with_word r e) less = λ t follow.
-    let seen : Sees kind.Dots (instead n t i) = kind_shown i (inl less) ∙ s in
-    ([], _, (expr.Varargs, by.varargs (record { seen = seen; taken = refl }) (free fault.NoVararg r _)), behind_word n t i e)
+    let seen : Sees kind.Dots (instead n t i) = kind_shown i (inl less) ∙ s in (
+      [],
+      _,
+      (expr.Varargs, by.varargs (record { seen = seen; taken = refl }) (free fault.NoVararg r _)),
+      behind_word n t i e,
+    )

@@ -1,5 +1,6 @@
 -- What is spelled goes forward through the words, and takes no body away.
-use Rattle.std.proofs.Common.{◌≡◌, ◌⊎◌, inl, inr, ℕ, suc, ◌+◌, ◌<◌, ◌≤◌, List, [], ◌∷◌, ◌++◌, length, Option, Some, IsSome, refl, sym, ap, ◌∙◌, subst, arith, length-append, length-set}
+use Rattle.std.proofs.Common.{◌≡◌, ◌⊎◌, inl, inr, ℕ, suc, ◌+◌, ◌<◌, ◌≤◌, List, [], ◌∷◌, ◌++◌, length, Option, Some}
+use Rattle.std.proofs.Common.{IsSome, refl, sym, ap, ◌∙◌, subst, arith, length-append, length-set}
 use Rattle.std.proofs.lemmas.List.{append_assoc}
 use Rattle.lua_lex.specs.declared.kinds.TokenKind.{TokenKind}
 use Rattle.lua_lex.specs.declared.kinds.TokenKind.TheVariants as mark
@@ -31,38 +32,60 @@ pub record Eats (i j : Position) : Type 0 where
   pub words : length j.words < length i.words
   pub bodies : length i.bodies ≤ length j.bodies
 
--- ---- rows of steps
+-- ---- steps one behind the other
 
 joined : {u v : List Word} (a b w : List Word) → u ≡ a ++ v → v ≡ b ++ w → u ≡ a ++ b ++ w
 joined a b w e f = e ∙ ap (λ l. a ++ l) f ∙ sym (append_assoc a b w)
 
 stays_so : {i j : Position} → i.words ≡ j.words → i.bodies ≡ j.bodies → Goes i j
-stays_so {i} {j} e f = record { front = []; split = e; words = omega (arith, ap length e); bodies = omega (arith, ap length f) }
+stays_so {i} {j} e f = record {
+  front = [];
+  split = e;
+  words = omega (arith, ap length e);
+  bodies = omega (arith, ap length f);
+}
 
 pub stays : {i : Position} → Goes i i
 stays {i} = record { front = []; split = refl; words = omega arith; bodies = omega arith }
 
 pub also : {i j k : Position} → Goes i j → Goes j k → Goes i k
-also {i} {j} {k} a b = record { front = a.front ++ b.front; split = joined a.front b.front k.words a.split b.split; words = omega arith; bodies = omega arith }
+also {i} {j} {k} a b = record {
+  front = a.front ++ b.front;
+  split = joined a.front b.front k.words a.split b.split;
+  words = omega arith;
+  bodies = omega arith;
+}
 
 pub eaten : {i j : Position} → Eats i j → Goes i j
 eaten {i} {j} a = record { front = a.front; split = a.split; words = omega arith; bodies = omega arith }
 
 pub eats_also : {i j k : Position} → Eats i j → Goes j k → Eats i k
 eats_also {i} {j} {k} a b =
-    record { front = a.front ++ b.front; split = joined a.front b.front k.words a.split b.split; words = omega arith; bodies = omega arith }
+    record {
+      front = a.front ++ b.front;
+      split = joined a.front b.front k.words a.split b.split;
+      words = omega arith;
+      bodies = omega arith;
+    }
 
 pub also_eats : {i j k : Position} → Goes i j → Eats j k → Eats i k
 also_eats {i} {j} {k} a b =
-    record { front = a.front ++ b.front; split = joined a.front b.front k.words a.split b.split; words = omega arith; bodies = omega arith }
+    record {
+      front = a.front ++ b.front;
+      split = joined a.front b.front k.words a.split b.split;
+      words = omega arith;
+      bodies = omega arith;
+    }
 
 -- ---- steps
 
-behind_shorter : (i : Position) (words : List Word) (k : TokenKind) → at.kind_of (at.first_of words) ≡ Some k → length (at.behind i words).words + 1 ≡ length words
+behind_shorter : (i : Position) (words : List Word) (k : TokenKind) → at.kind_of (at.first_of words) ≡ Some k
+    → length (at.behind i words).words + 1 ≡ length words
 behind_shorter i [] k e = absurd (cc)
 behind_shorter i (word ∷ words) k e = omega arith
 
-behind_no_longer : (i : Position) (words : List Word) → i.words ≡ words → length (at.behind i words).words ≤ length i.words
+behind_no_longer : (i : Position) (words : List Word) → i.words ≡ words → length (at.behind i words).words
+    ≤ length i.words
 behind_no_longer i [] e = omega arith
 behind_no_longer i (word ∷ words) e = omega (arith, ap length e)
 
@@ -80,17 +103,33 @@ behind_split i [] e = sym e
 behind_split i (word ∷ words) e = refl
 
 pub goes_next : (i : Position) → Goes i (at.next i)
-goes_next i = record { front = passed i.words; split = behind_split i i.words refl; words = behind_no_longer i i.words refl; bodies = omega (arith, ap length (behind_bodies i i.words)) }
+goes_next i = record {
+  front = passed i.words;
+  split = behind_split i i.words refl;
+  words = behind_no_longer i i.words refl;
+  bodies = omega (arith, ap length (behind_bodies i i.words));
+}
 
 pub eats_next : (i : Position) (k : TokenKind) → at.kind i ≡ Some k → Eats i (at.next i)
-eats_next i k e = record { front = passed i.words; split = behind_split i i.words refl; words = omega (arith, behind_shorter i i.words k e); bodies = omega (arith, ap length (behind_bodies i i.words)) }
+eats_next i k e = record {
+  front = passed i.words;
+  split = behind_split i i.words refl;
+  words = omega (arith, behind_shorter i i.words k e);
+  bodies = omega (arith, ap length (behind_bodies i i.words));
+}
 
-behind_some : (i : Position) (words : List Word) → IsSome (at.kind_of (at.first_of words)) → length (at.behind i words).words + 1 ≡ length words
+behind_some : (i : Position) (words : List Word) → IsSome (at.kind_of (at.first_of words))
+    → length (at.behind i words).words + 1 ≡ length words
 behind_some i [] e = absurd (cc)
 behind_some i (word ∷ words) e = omega arith
 
 pub eats_some : (i : Position) → IsSome (at.kind i) → Eats i (at.next i)
-eats_some i e = record { front = passed i.words; split = behind_split i i.words refl; words = omega (arith, behind_some i i.words e); bodies = omega (arith, ap length (behind_bodies i i.words)) }
+eats_some i e = record {
+  front = passed i.words;
+  split = behind_split i i.words refl;
+  words = omega (arith, behind_some i i.words e);
+  bodies = omega (arith, ap length (behind_bodies i i.words));
+}
 
 pub eats_to : {i j k : Position} → j ≡ k → Eats i k → Eats i j
 eats_to {i} {j} {k} e eats = let P : Position → Type 0 = λ p. Eats i p in subst P (sym e) eats
@@ -126,13 +165,15 @@ pub resumes : {i j k : Position} → at.ResumesExpression i j k → Goes j k
 resumes {i} {j} {k} r = goes_to r.resumed (stays_so refl refl)
 
 pub begins_body : {number : ℕ} {i j : Position} → at.BeginsBody number i j → Goes i j
-begins_body {number} {i} {j} b = goes_to b.begun (record { front = []; split = refl; words = omega arith; bodies = simp length-append (omega arith) })
+begins_body {number} {i} {j} b = goes_to b.begun
+    (record { front = []; split = refl; words = omega arith; bodies = simp length-append (omega arith) })
 
 pub has_place : {number : ℕ} {i j : Position} → at.BeginsBody number i j → number < length j.bodies
 has_place {number} {i} {j} b = rw (b.number_is, b.begun) (simp length-append (omega arith))
 
 pub ends_body : {number : ℕ} {body : Body} {i j : Position} → at.EndsBody number body i j → Goes i j
-ends_body {number} {body} {i} {j} b = goes_to b.ended (record { front = []; split = refl; words = omega arith; bodies = omega (arith, length-set i.bodies number body) })
+ends_body {number} {body} {i} {j} b = goes_to b.ended
+    (record { front = []; split = refl; words = omega arith; bodies = omega (arith, length-set i.bodies number body) })
 
 semicolon_goes : (k : Option TokenKind) (i : Position) → Goes i (at.behind_semicolon k i)
 semicolon_goes (Some mark.Semicolon) i = goes_next i
@@ -180,10 +221,13 @@ goes (rule.constructor t r fs u) = also (eaten (takes t)) (also (goes fs) (eaten
 goes (rule.no_fields s) = stays
 goes (rule.last_field n f s) = goes f
 goes (rule.more_fields n f s p fs) = also (goes f) (also (passes p) (goes fs))
-goes (rule.keyed t k u v e) = also (eaten (takes t)) (also (goes k) (also (eaten (takes u)) (also (eaten (takes v)) (goes e))))
+goes (rule.keyed t k u v e) = also (eaten (takes t))
+    (also (goes k) (also (eaten (takes u)) (also (eaten (takes v)) (goes e))))
 goes (rule.named n t e) = also (eaten (takes_name n)) (also (eaten (takes t)) (goes e))
 goes (rule.plain n e) = goes e
-goes (rule.function_body b t ps u r block e end) = also (begins_body b) (also (eaten (takes t)) (also (goes ps) (also (eaten (takes u)) (also (goes block) (also (eaten (takes e)) (ends_body end))))))
+goes (rule.function_body b t ps u r block e end) =
+    also (begins_body b) (also (eaten (takes t))
+    (also (goes ps) (also (eaten (takes u)) (also (goes block) (also (eaten (takes e)) (ends_body end))))))
 goes (rule.no_parameters s) = stays
 goes (rule.only_varargs t) = eaten (takes t)
 goes (rule.last_parameter n s) = eaten (takes_name n)
@@ -199,23 +243,30 @@ goes (rule.return_values t n es r) = also (eaten (takes t)) (goes es)
 goes (rule.do_block t r b u) = also (eaten (takes t)) (also (goes b) (eaten (takes u)))
 goes (rule.while_loop t e b) = also (eaten (takes t)) (also (goes e) (goes b))
 goes (rule.repeat_loop t r b u e) = also (eaten (takes t)) (also (goes b) (also (eaten (takes u)) (goes e)))
-goes (rule.if_statement t b bs o u) = also (eaten (takes t)) (also (goes b) (also (goes bs) (also (goes o) (eaten (takes u)))))
+goes (rule.if_statement t b bs o u) = also (eaten (takes t))
+    (also (goes b) (also (goes bs) (also (goes o) (eaten (takes u)))))
 goes (rule.no_branches s) = stays
 goes (rule.more_branches t b bs) = also (eaten (takes t)) (also (goes b) (goes bs))
 goes (rule.branch e t r b) = also (goes e) (also (eaten (takes t)) (goes b))
 goes (rule.no_else s) = stays
 goes (rule.else_block t r b) = also (eaten (takes t)) (goes b)
 goes (rule.for_loop t d) = also (eaten (takes t)) (goes d)
-goes (rule.numeric_for n t b u e s block) = also (eaten (takes_name n)) (also (eaten (takes t)) (also (goes b) (also (eaten (takes u)) (also (goes e) (also (goes s) (goes block))))))
+goes (rule.numeric_for n t b u e s block) =
+    also (eaten (takes_name n)) (also (eaten (takes t))
+    (also (goes b) (also (eaten (takes u)) (also (goes e) (also (goes s) (goes block))))))
 goes (rule.no_step s) = stays
 goes (rule.step t e) = also (eaten (takes t)) (goes e)
 goes (rule.generic_for ns t es b) = also (goes ns) (also (eaten (takes t)) (also (goes es) (goes b)))
 goes (rule.loop_block t r b u) = also (eaten (takes t)) (also (goes b) (eaten (takes u)))
-goes (rule.function_statement l t n p s b) = also (eaten (takes t)) (also (eaten (takes_name n)) (also (goes p) (goes b)))
-goes (rule.method_statement l t n p u m b) = also (eaten (takes t)) (also (eaten (takes_name n)) (also (goes p) (also (eaten (takes u)) (also (eaten (takes_name m)) (goes b)))))
+goes (rule.function_statement l t n p s b) =
+    also (eaten (takes t)) (also (eaten (takes_name n)) (also (goes p) (goes b)))
+goes (rule.method_statement l t n p u m b) =
+    also (eaten (takes t)) (also (eaten (takes_name n))
+    (also (goes p) (also (eaten (takes u)) (also (eaten (takes_name m)) (goes b)))))
 goes (rule.no_path s) = stays
 goes (rule.more_path t n p) = also (eaten (takes t)) (also (eaten (takes_name n)) (goes p))
-goes (rule.local_function t l u n b) = also (eaten (takes t)) (also (eaten (takes u)) (also (eaten (takes_name n)) (goes b)))
+goes (rule.local_function t l u n b) = also (eaten (takes t))
+    (also (eaten (takes u)) (also (eaten (takes_name n)) (goes b)))
 goes (rule.local t ns vs) = also (eaten (takes t)) (also (goes ns) (goes vs))
 goes (rule.one_name n s) = eaten (takes_name n)
 goes (rule.more_names n t ns) = also (eaten (takes_name n)) (also (eaten (takes t)) (goes ns))
@@ -226,7 +277,7 @@ goes (rule.one_target t s) = goes t
 goes (rule.more_targets t u ts) = also (goes t) (also (eaten (takes u)) (goes ts))
 goes (rule.own_chain b c r) = also (begins b) (also (goes c) (resumes r))
 goes (rule.name_target c) = goes c
-goes (rule.row_target ss c e) = goes c
+goes (rule.index_target ss c e) = goes c
 goes (rule.call_statement ss c e) = goes c
 
 -- ---- what takes a word at least
@@ -290,11 +341,13 @@ moves (rule.constructor t r fs u) = eats_also (takes t) (also (goes fs) (eaten (
 moves (rule.no_fields s) = inr refl
 moves (rule.last_field n f s) = inl (moves f)
 moves (rule.more_fields n f s p fs) = inl (eats_also (moves f) (also (passes p) (goes fs)))
-moves (rule.keyed t k u v e) = eats_also (takes t) (also (goes k) (also (eaten (takes u)) (also (eaten (takes v)) (goes e))))
+moves (rule.keyed t k u v e) = eats_also (takes t)
+    (also (goes k) (also (eaten (takes u)) (also (eaten (takes v)) (goes e))))
 moves (rule.named n t e) = eats_also (takes_name n) (also (eaten (takes t)) (goes e))
 moves (rule.plain n e) = moves e
 moves (rule.function_body b t ps u r block e end) =
-    also_eats (begins_body b) (eats_also (takes t) (also (goes ps) (also (eaten (takes u)) (also (goes block) (also (eaten (takes e)) (ends_body end))))))
+    also_eats (begins_body b) (eats_also (takes t)
+    (also (goes ps) (also (eaten (takes u)) (also (goes block) (also (eaten (takes e)) (ends_body end))))))
 moves (rule.no_parameters s) = inr refl
 moves (rule.only_varargs t) = inl (takes t)
 moves (rule.last_parameter n s) = inl (takes_name n)
@@ -310,7 +363,8 @@ moves (rule.return_values t n es r) = eats_also (takes t) (goes es)
 moves (rule.do_block t r b u) = eats_also (takes t) (also (goes b) (eaten (takes u)))
 moves (rule.while_loop t e b) = eats_also (takes t) (also (goes e) (goes b))
 moves (rule.repeat_loop t r b u e) = eats_also (takes t) (also (goes b) (also (eaten (takes u)) (goes e)))
-moves (rule.if_statement t b bs o u) = eats_also (takes t) (also (goes b) (also (goes bs) (also (goes o) (eaten (takes u)))))
+moves (rule.if_statement t b bs o u) = eats_also (takes t)
+    (also (goes b) (also (goes bs) (also (goes o) (eaten (takes u)))))
 moves (rule.no_branches s) = inr refl
 moves (rule.more_branches t b bs) = inl (eats_also (takes t) (also (goes b) (goes bs)))
 moves (rule.branch e t r b) = eats_also (moves e) (also (eaten (takes t)) (goes b))
@@ -318,17 +372,20 @@ moves (rule.no_else s) = inr refl
 moves (rule.else_block t r b) = inl (eats_also (takes t) (goes b))
 moves (rule.for_loop t d) = eats_also (takes t) (goes d)
 moves (rule.numeric_for n t b u e s block) =
-    eats_also (takes_name n) (also (eaten (takes t)) (also (goes b) (also (eaten (takes u)) (also (goes e) (also (goes s) (goes block))))))
+    eats_also (takes_name n) (also (eaten (takes t))
+    (also (goes b) (also (eaten (takes u)) (also (goes e) (also (goes s) (goes block))))))
 moves (rule.no_step s) = inr refl
 moves (rule.step t e) = inl (eats_also (takes t) (goes e))
 moves (rule.generic_for ns t es b) = eats_also (moves ns) (also (eaten (takes t)) (also (goes es) (goes b)))
 moves (rule.loop_block t r b u) = eats_also (takes t) (also (goes b) (eaten (takes u)))
 moves (rule.function_statement l t n p s b) = eats_also (takes t) (also (eaten (takes_name n)) (also (goes p) (goes b)))
 moves (rule.method_statement l t n p u m b) =
-    eats_also (takes t) (also (eaten (takes_name n)) (also (goes p) (also (eaten (takes u)) (also (eaten (takes_name m)) (goes b)))))
+    eats_also (takes t) (also (eaten (takes_name n))
+    (also (goes p) (also (eaten (takes u)) (also (eaten (takes_name m)) (goes b)))))
 moves (rule.no_path s) = inr refl
 moves (rule.more_path t n p) = inl (eats_also (takes t) (also (eaten (takes_name n)) (goes p)))
-moves (rule.local_function t l u n b) = eats_also (takes t) (also (eaten (takes u)) (also (eaten (takes_name n)) (goes b)))
+moves (rule.local_function t l u n b) = eats_also (takes t)
+    (also (eaten (takes u)) (also (eaten (takes_name n)) (goes b)))
 moves (rule.local t ns vs) = eats_also (takes t) (also (goes ns) (goes vs))
 moves (rule.one_name n s) = takes_name n
 moves (rule.more_names n t ns) = eats_also (takes_name n) (also (eaten (takes t)) (goes ns))
@@ -339,15 +396,17 @@ moves (rule.one_target t s) = moves t
 moves (rule.more_targets t u ts) = eats_also (moves t) (also (eaten (takes u)) (goes ts))
 moves (rule.own_chain b c r) = also_eats (begins b) (eats_also (moves c) (resumes r))
 moves (rule.name_target c) = moves c
-moves (rule.row_target ss c e) = moves c
+moves (rule.index_target ss c e) = moves c
 moves (rule.call_statement ss c e) = moves c
 
 -- ---- what no word is taken between
 
 -- ---- some of that
 
-pub eats_suffix : {rules : Rules} {c : Context} {suffix : Suffix} {i j : Position} → Spelled rules c (thing.suffix suffix) i j → Eats i j
+pub eats_suffix : {rules : Rules} {c : Context} {suffix : Suffix} {i j : Position}
+    → Spelled rules c (thing.suffix suffix) i j → Eats i j
 eats_suffix x = moves x
 
-pub eats_statement : {rules : Rules} {c : Context} {stat : Stat} {i j : Position} → Spelled rules c (thing.statement stat) i j → Eats i j
+pub eats_statement : {rules : Rules} {c : Context} {stat : Stat} {i j : Position}
+    → Spelled rules c (thing.statement stat) i j → Eats i j
 eats_statement x = moves x

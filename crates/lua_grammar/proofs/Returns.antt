@@ -15,7 +15,8 @@ use Rattle.lua_grammar.specs.declared.statements.Deed.TheVariants as deed_of
 use Rattle.lua_grammar.specs.Parts.{suffixed, IsReturn, IsCall, IsSingleCall, of_values, of_call}
 use Rattle.lua_grammar.proofs.Ends.{nothing_is_end, no_call, suffixed_out, same_suffixed}
 
-suffixed_or : {A B C D E F : Type 0} (x : Expr-F A B C D E F) → ((head : B) × (all : List E) × (x ≡ Expr-F.Suffixed head all))
+suffixed_or : {A B C D E F : Type 0} (x : Expr-F A B C D E F)
+    → ((head : B) × (all : List E) × (x ≡ Expr-F.Suffixed head all))
     ⊎ ((head : B) (all : List E) → x ≡ Expr-F.Suffixed head all → ⊥)
 suffixed_or (Expr-F.Suffixed head all) = inl (head, all, refl)
 suffixed_or _ = inr (λ head all e. cc)
@@ -27,7 +28,8 @@ IsSuffixed e = (head : Expr) × (all : List Suffix) × (e ≡ expr.Suffixed head
 has_suffixes : (e : Expr) → IsSuffixed e ⊎ (IsSuffixed e → ⊥)
 has_suffixes e = by_out (suffixed_or (out-Expr e)) where
   by_out : ((head : Expr) × (all : List Suffix) × (out-Expr e ≡ Expr-F.Suffixed head all))
-      ⊎ ((head : Expr) (all : List Suffix) → out-Expr e ≡ Expr-F.Suffixed head all → ⊥) → IsSuffixed e ⊎ (IsSuffixed e → ⊥)
+      ⊎ ((head : Expr) (all : List Suffix) → out-Expr e ≡ Expr-F.Suffixed head all → ⊥)
+      → IsSuffixed e ⊎ (IsSuffixed e → ⊥)
   by_out (inl (head, all, is)) = inl (head, all, sym (roll-out-Expr e) ∙ ap roll-Expr is ∙ rolls-Suffixed head all)
   by_out (inr none) = inr (λ (head, all, is). none head all (ap out-Expr is ∙ suffixed_out head all))
 
@@ -51,7 +53,8 @@ no_suffixes_no_call e head all is none (function, how, call) =
     let (_, same) = same_suffixed head call.head all _ (sym is ∙ call.is) in
     nothing_is_end call.suffixes (suffix_of.Call how) (sym none ∙ same)
 
-key_no_call : (e head : Expr) (all before : List Suffix) (k : Key) → e ≡ expr.Suffixed head all → all ≡ before ++ suffix_of.Key k ∷ []
+key_no_call : (e head : Expr) (all before : List Suffix) (k : Key) → e ≡ expr.Suffixed head all
+    → all ≡ before ++ suffix_of.Key k ∷ []
     → IsSomeCall e → ⊥
 key_no_call e head all before k is ends (function, how, call) =
     let (_, same) = same_suffixed head call.head all _ (sym is ∙ call.is) in
@@ -59,11 +62,22 @@ key_no_call e head all before k is ends (function, how, call) =
 
 some_call : (e : Expr) → IsSomeCall e ⊎ (IsSomeCall e → ⊥)
 some_call e = by_form (has_suffixes e) where
-  by_end : (head : Expr) (all : List Suffix) → e ≡ expr.Suffixed head all → (all ≡ []) ⊎ EndsIn all → IsSomeCall e ⊎ (IsSomeCall e → ⊥)
+  by_end : (head : Expr) (all : List Suffix) → e ≡ expr.Suffixed head all → (all ≡ []) ⊎ EndsIn all
+      → IsSomeCall e ⊎ (IsSomeCall e → ⊥)
   by_end head all is (inl none) = inr (no_suffixes_no_call e head all is none)
   by_end head all is (inr (before, suffix_of.Key k, ends)) = inr (key_no_call e head all before k is ends)
   by_end head all is (inr (before, suffix_of.Call how, ends)) =
-      inl (suffixed head before, how, record { head = head; suffixes = before; called = refl; is = is ∙ ap (expr.Suffixed head) ends })
+      inl (
+        suffixed head before,
+        how,
+        record {
+          head = head;
+          suffixes = before;
+          called = refl;
+          is = is
+              ∙ ap (expr.Suffixed head) ends;
+        },
+      )
 
   by_form : IsSuffixed e ⊎ (IsSuffixed e → ⊥) → IsSomeCall e ⊎ (IsSomeCall e → ⊥)
   by_form (inl (head, all, is)) = by_end head all is (ends_in all)
@@ -78,7 +92,12 @@ single e (inr none) = (
   deed_of.Return (e ∷ []),
   of_values (λ function how (e', is, call).
       let same : e' ≡ e = cc in
-      let whole : IsCall function how e = record { head = call.head; suffixes = call.suffixes; called = call.called; is = sym same ∙ call.is } in
+      let whole : IsCall function how e = record {
+        head = call.head;
+        suffixes = call.suffixes;
+        called = call.called;
+        is = sym same ∙ call.is;
+      } in
       none (function, how, whole)),
 )
 

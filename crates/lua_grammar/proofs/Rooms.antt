@@ -18,7 +18,7 @@ use Rattle.lua_grammar.specs.Contexts.{Rules, Kept, HasRoom}
 use Rattle.lua_grammar.specs.Things as thing
 use Rattle.lua_grammar.specs.Grammar as by
 use Rattle.lua_grammar.specs.Grammar.{Spelled}
-use Rattle.lua_grammar.specs.Rows.{begins_chain}
+use Rattle.lua_grammar.specs.Productions.{begins_chain}
 use Rattle.lua_grammar.specs.Stuck.{begins_simple, begins_parameter, nests_simple, nests_suffix, nests_statement}
 use Rattle.lua_grammar.specs.Words.{begins_suffix}
 use Rattle.lua_grammar.proofs.FirstWords.{first_word}
@@ -26,10 +26,10 @@ use Rattle.lua_grammar.proofs.Inversions.{table_word}
 
 -- ---- first words
 
-chains_begin : (w : Option TokenKind) → begins_chain w ≡ true → begins_simple w ≡ true
-chains_begin (Some kind.Name) e = refl
-chains_begin (Some kind.LeftParen) e = refl
-chains_begin w e = cc
+chains_begin_operands : (w : Option TokenKind) → begins_chain w ≡ true → begins_simple w ≡ true
+chains_begin_operands (Some kind.Name) e = refl
+chains_begin_operands (Some kind.LeftParen) e = refl
+chains_begin_operands w e = cc
 
 pub simple_first : {rules : Rules} {c : Context} {e : Expr} {i z : Position} → Spelled rules c (thing.simple e) i z
     → begins_simple (at.kind i) ≡ true
@@ -41,7 +41,7 @@ simple_first (by.text t) = ap begins_simple t.seen
 simple_first (by.varargs t k) = ap begins_simple t.seen
 simple_first (by.function l t b) = ap begins_simple t.seen
 simple_first (by.table x) = ap begins_simple (table_word _ (first_word x))
-simple_first (by.prefix x) = chains_begin _ (first_word x)
+simple_first (by.prefix x) = chains_begin_operands _ (first_word x)
 
 pub parameter_first : {rules : Rules} {c : Context} {names : List Name} {varargs : Bool} {i z : Position}
     → Spelled rules c (thing.parameters names varargs) i z → begins_parameter (at.kind i) ≡ true
@@ -59,10 +59,12 @@ nested_suffixes_begin w e = cc
 -- ---- levels
 
 -- a word of the one kind is none of the other
-pub other_word : (nests : Option TokenKind → Bool) {v w : Option TokenKind} → nests w ≡ true → w ≡ v → nests v ≡ false → ⊥
+pub other_word : (nests : Option TokenKind → Bool) {v w : Option TokenKind} → nests w ≡ true → w ≡ v → nests v ≡ false
+    → ⊥
 other_word nests h e f = cc (ap nests e)
 
-pub constructor_room : {rules : Rules} {c : Context} {fields : List Field} {i z : Position} → Spelled rules c (thing.constructor fields) i z
+pub constructor_room : {rules : Rules} {c : Context} {fields : List Field} {i z : Position}
+    → Spelled rules c (thing.constructor fields) i z
     → HasRoom rules c
 constructor_room (by.constructor t r x u) = r
 
@@ -70,7 +72,8 @@ pub body_room : {rules : Rules} {c : Context} {line number : ℕ} {method : Bool
     → Spelled rules c (thing.function_body line method number) i z → HasRoom rules c
 body_room (by.function_body b t ps u r x v e) = r
 
-pub unary_room : {rules : Rules} {c : Context} {rank : ℕ} {e : Expr} {by : Unary} {i z : Position} → Spelled rules c (thing.operand rank e) i z
+pub unary_room : {rules : Rules} {c : Context} {rank : ℕ} {e : Expr} {by : Unary} {i z : Position}
+    → Spelled rules c (thing.operand rank e) i z
     → 7 ≤ rank → at.sign i ≡ Some by → HasRoom rules c
 unary_room (by.operands le x ls) g s = absurd (omega (arith, le, g))
 unary_room (by.unary e p r x) g s = r
@@ -78,12 +81,14 @@ unary_room (by.power e x ls) g s = absurd (cc (e, s))
 unary_room (by.unary_exponent e p r x) g s = r
 unary_room (by.exponent e x) g s = absurd (cc (e, s))
 
-pub head_room : {rules : Rules} {c : Context} {e : Expr} {i z : Position} → Spelled rules c (thing.head e) i z → nests_simple (at.kind i) ≡ true
+pub head_room : {rules : Rules} {c : Context} {e : Expr} {i z : Position} → Spelled rules c (thing.head e) i z
+    → nests_simple (at.kind i) ≡ true
     → HasRoom rules c
 head_room (by.name t) h = absurd (other_word nests_simple h t.seen refl)
 head_room (by.parenthesis t r x u) h = r
 
-chain_room : {rules : Rules} {c : Context} {e : Expr} {all : List Suffix} {i z : Position} → Spelled rules c (thing.chain e all) i z
+chain_room : {rules : Rules} {c : Context} {e : Expr} {all : List Suffix} {i z : Position}
+    → Spelled rules c (thing.chain e all) i z
     → nests_simple (at.kind i) ≡ true → HasRoom rules c
 chain_room (by.chain x ss) h = head_room x h
 
@@ -99,27 +104,32 @@ simple_room (by.function l t b) h = body_room b
 simple_room (by.table x) h = constructor_room x
 simple_room (by.prefix x) h = chain_room x h
 
-pub arguments_room : {rules : Rules} {c : Context} {es : List Expr} {i z : Position} → Spelled rules c (thing.arguments es) i z
+pub arguments_room : {rules : Rules} {c : Context} {es : List Expr} {i z : Position}
+    → Spelled rules c (thing.arguments es) i z
     → nests_suffix (at.kind i) ≡ true → HasRoom rules c
 arguments_room (by.no_arguments t n r u) h = r
 arguments_room (by.arguments t n r x u) h = r
 arguments_room (by.table_argument x) h = constructor_room x
 arguments_room (by.text_argument t) h = absurd (other_word nests_suffix h t.seen refl)
 
-pub suffix_room : {rules : Rules} {c : Context} {suffix : Suffix} {i z : Position} → Spelled rules c (thing.suffix suffix) i z
+pub suffix_room : {rules : Rules} {c : Context} {suffix : Suffix} {i z : Position}
+    → Spelled rules c (thing.suffix suffix) i z
     → nests_suffix (at.kind i) ≡ true → HasRoom rules c
 suffix_room (by.member t n) h = absurd (other_word nests_suffix h t.seen refl)
 suffix_room (by.index t r x u) h = r
 suffix_room (by.call x) h = arguments_room x h
 suffix_room (by.method t n x) h = absurd (other_word nests_suffix h t.seen refl)
 
-loop_room : {rules : Rules} {c : Context} {block : List Stat} {i z : Position} → Spelled rules c (thing.loop_block block) i z → HasRoom rules c
+loop_room : {rules : Rules} {c : Context} {block : List Stat} {i z : Position}
+    → Spelled rules c (thing.loop_block block) i z → HasRoom rules c
 loop_room (by.loop_block t r x u) = r
 
-branch_room : {rules : Rules} {c : Context} {branch : Branch} {i z : Position} → Spelled rules c (thing.branch branch) i z → HasRoom rules c
+branch_room : {rules : Rules} {c : Context} {branch : Branch} {i z : Position}
+    → Spelled rules c (thing.branch branch) i z → HasRoom rules c
 branch_room (by.branch x t r y) = r
 
-pub range_room : {rules : Rules} {c : Context} {deed : Deed} {i z : Position} → Spelled rules c (thing.for_range deed) i z → HasRoom rules c
+pub range_room : {rules : Rules} {c : Context} {deed : Deed} {i z : Position}
+    → Spelled rules c (thing.for_range deed) i z → HasRoom rules c
 range_room (by.numeric_for t u x v y s b) = loop_room b
 range_room (by.generic_for x t y b) = loop_room b
 
@@ -144,14 +154,16 @@ deed_room {i = i} (by.call_statement ss x e) h = absurd (chain_nests (at.kind i)
 
 -- ---- near words
 
-pub arguments_near : {rules : Rules} {c : Context} {es : List Expr} {i z : Position} → Spelled rules c (thing.arguments es) i z
+pub arguments_near : {rules : Rules} {c : Context} {es : List Expr} {i z : Position}
+    → Spelled rules c (thing.arguments es) i z
     → Sees kind.LeftParen i → Kept (rules fault.Ambiguous) (IsNear i)
 arguments_near (by.no_arguments t n r u) s = n
 arguments_near (by.arguments t n r x u) s = n
 arguments_near (by.table_argument x) s = absurd (cc (table_word _ (first_word x), s))
 arguments_near (by.text_argument t) s = absurd (cc (t.seen, s))
 
-pub suffix_near : {rules : Rules} {c : Context} {suffix : Suffix} {i z : Position} → Spelled rules c (thing.suffix suffix) i z
+pub suffix_near : {rules : Rules} {c : Context} {suffix : Suffix} {i z : Position}
+    → Spelled rules c (thing.suffix suffix) i z
     → Sees kind.LeftParen i → Kept (rules fault.Ambiguous) (IsNear i)
 suffix_near (by.member t n) s = absurd (cc (t.seen, s))
 suffix_near (by.index t r x u) s = absurd (cc (t.seen, s))

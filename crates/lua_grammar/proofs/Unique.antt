@@ -19,7 +19,8 @@ One {A} P a j = (a' : A) (j' : Position) → P a' j' → (a ≡ a') × (j ≡ j'
 
 -- no chain that is a call begins there
 abbrev pub NoCall : Rules → Context → Position → Type 0
-NoCall rules c i = (head : Expr) (all suffixes : List Suffix) (how : Call) (z : Position) → Spelled rules c (thing.own_chain head all) i z
+NoCall rules c i = (head : Expr) (all suffixes : List Suffix) (how : Call) (z : Position)
+    → Spelled rules c (thing.own_chain head all) i z
     → all ≡ suffixes ++ suffix_of.Call how ∷ [] → ⊥
 
 abbrev pub Unique : Rules → Context → Thing → Position → Position → Type 0
@@ -42,7 +43,8 @@ Unique rules c (thing.field f) i j = One (λ a z. Spelled rules c (thing.field a
 Unique rules c (thing.names names) i j = One (λ a z. Spelled rules c (thing.names a) i z) names j
 Unique rules c (thing.parameters names varargs) i j = (names' : List Name) (varargs' : Bool) (j' : Position)
     → Spelled rules c (thing.parameters names' varargs') i j' → (names ≡ names') × (varargs ≡ varargs') × (j ≡ j')
-Unique rules c (thing.function_body line method number) i j = One (λ a z. Spelled rules c (thing.function_body line method a) i z) number j
+Unique rules c (thing.function_body line method number) i j =
+    One (λ a z. Spelled rules c (thing.function_body line method a) i z) number j
 Unique rules c (thing.block block) i j = One (λ a z. Spelled rules c (thing.block a) i z) block j
 Unique rules c (thing.statement stat) i j = One (λ a z. Spelled rules c (thing.statement a) i z) stat j
 Unique rules c (thing.deed deed) i j = One (λ a z. Spelled rules c (thing.deed a) i z) deed j
@@ -56,7 +58,8 @@ Unique rules c (thing.for_range deed) i j = One (λ a z. Spelled rules c (thing.
 Unique rules c (thing.step step) i j = One (λ a z. Spelled rules c (thing.step a) i z) step j
 Unique rules c (thing.path path) i j = One (λ a z. Spelled rules c (thing.path a) i z) path j
 Unique rules c (thing.values es) i j = One (λ a z. Spelled rules c (thing.values a) i z) es j
-Unique rules c (thing.targets targets) i j = One (λ a z. Spelled rules c (thing.targets a) i z) targets j × NoCall rules c i
+Unique rules c (thing.targets targets) i j = One (λ a z. Spelled rules c (thing.targets a) i z) targets j
+    × NoCall rules c i
 Unique rules c (thing.target target) i j = One (λ a z. Spelled rules c (thing.target a) i z) target j × NoCall rules c i
 
 -- behind the words of equal positions
@@ -67,5 +70,6 @@ onward a to b = a ∙ ap at.next to ∙ sym b
 abbrev pub resumed : Position → Position → Position
 resumed i p = record p { operators = i.operators; suffixes = i.suffixes }
 
-pub same_name_taken : {n n' : Name} {i i' j j' : Position} → TakesName n i j → i ≡ i' → TakesName n' i' j' → (n ≡ n') × (j ≡ j')
+pub same_name_taken : {n n' : Name} {i i' j j' : Position} → TakesName n i j → i ≡ i' → TakesName n' i' j'
+    → (n ≡ n') × (j ≡ j')
 same_name_taken t to t' = (t.name_is ∙ ap at.name to ∙ sym t'.name_is, onward t.taken to t'.taken)

@@ -8,5 +8,5 @@ pub mod Grammar
 pub mod Trees
 pub mod Stops
 pub mod Classes
-pub mod Rows
+pub mod Productions
 pub mod Stuck

@@ -1,5 +1,6 @@
 -- Where a reader of the words stands.
-use Rattle.std.specs.Prelude.{◌≡◌, ◌≢◌, ℕ, suc, ◌==◌, Bool, true, false, if◌then◌else◌, List, [], ◌∷◌, ◌++◌, length, slice_set, Option, Some, None, option_and_then, IsSome}
+use Rattle.std.specs.Prelude.{◌≡◌, ◌≢◌, ℕ, suc, ◌==◌, Bool, true, false, if◌then◌else◌, List, [], ◌∷◌, ◌++◌, length}
+use Rattle.std.specs.Prelude.{slice_set, Option, Some, None, option_and_then, IsSome}
 use Rattle.lua_lex.specs.declared.kinds.TokenKind.{TokenKind}
 use Rattle.lua_lex.specs.declared.kinds.TokenKind.TheVariants as mark
 use Rattle.lua_grammar.specs.declared.operators.Unary.{Unary}
@@ -34,7 +35,13 @@ kind i = kind_of (first_of i.words)
 -- behind the next word
 abbrev pub behind : Position → List Word → Position
 behind i [] = i
-behind i (word ∷ words) = record { words = words; line = word.line; operators = i.operators; suffixes = i.suffixes; bodies = i.bodies }
+behind i (word ∷ words) = record {
+  words = words;
+  line = word.line;
+  operators = i.operators;
+  suffixes = i.suffixes;
+  bodies = i.bodies;
+}
 
 abbrev pub next : Position → Position
 next i = behind i i.words
@@ -137,7 +144,10 @@ pub record ResumesExpression (i j k : Position) : Type 0 where
 -- a function begins: a place is kept for its body among the bodies, and its number is that place
 pub record BeginsBody (number : ℕ) (i j : Position) : Type 0 where
   pub number_is : number ≡ length i.bodies
-  pub begun : j ≡ record i { bodies = i.bodies ++ record { line = 0; method = false; parameters = []; varargs = false; block = [] } ∷ [] }
+  pub begun : j ≡ record i {
+    bodies = i.bodies
+        ++ record { line = 0; method = false; parameters = []; varargs = false; block = [] } ∷ [];
+  }
 
 -- the function ends: its body takes its place
 pub record EndsBody (number : ℕ) (body : Body) (i j : Position) : Type 0 where

@@ -10,7 +10,8 @@ use Rattle.lua_grammar.specs.Trees.{IsTree}
 
 -- some words behind these make a text of them, by these rules
 abbrev pub Begins : Rules → List Word → Type 0
-Begins rules words = (more : List Word) × (block : List Stat) × (bodies : List Body) × IsTree rules (words ++ more) block bodies
+Begins rules words = (more : List Word) × (block : List Stat) × (bodies : List Body)
+    × IsTree rules (words ++ more) block bodies
 
 -- the order in which the kinds of fault are looked for
 abbrev pub rank : SyntaxKind → ℕ
@@ -33,8 +34,10 @@ FaultIs (suc n) words = Begins (up_to n) words × (Begins (up_to (suc n)) words 
 pub data StopsAt (words : List Word) (last_line : ℕ) : ℕ → SyntaxKind → Type 0 where
   -- up to a word they begin a text, and with it they do not
   at_word : (front back : List Word) (word : Word) (kind : SyntaxKind) → words ≡ front ++ word ∷ back
-      → Begins every_rule front → (Begins every_rule (front ++ word ∷ []) → ⊥) → FaultIs (rank kind) (front ++ word ∷ [])
+      → Begins every_rule front → (Begins every_rule (front ++ word ∷ []) → ⊥)
+      → FaultIs (rank kind) (front ++ word ∷ [])
       → StopsAt words last_line word.line kind
   -- they begin a text, and are none
-  at_end : Begins every_rule words → ((block : List Stat) (bodies : List Body) → IsTree every_rule words block bodies → ⊥)
+  at_end : Begins every_rule words → ((block : List Stat) (bodies : List Body) → IsTree every_rule words block bodies
+      → ⊥)
       → StopsAt words last_line last_line fault.Unexpected

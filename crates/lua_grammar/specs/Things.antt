@@ -13,7 +13,8 @@ use Rattle.lua_grammar.specs.declared.statements.Target.{Target}
 pub data Thing : Type 0 where
   -- an expression of its own, whose operators and suffixes are counted from 0
   expression : Expr → Thing
-  -- an operand of the operators below this precedence: 1 for a whole expression, 7 for a unary operator or a power, 8 for
+  -- an operand of the operators below this precedence: 1 for a whole expression, 7 for a unary operator or a power, 8
+  -- for
   -- an exponent
   operand : ℕ → Expr → Thing
   -- all operators of this precedence that come, each with the operand behind it
@@ -40,7 +41,8 @@ pub data Thing : Type 0 where
   names : List Name → Thing
   -- the parameters of a function, and whether `...` is the last of them
   parameters : List Name → Bool → Thing
-  -- what follows the word `function`, which stands on this line, and a name; whether it is a method; the number of its body
+  -- what follows the word `function`, which stands on this line, and a name; whether it is a method; the number of its
+  -- body
   function_body : (line : ℕ) (method : Bool) (number : ℕ) → Thing
   -- statements up to the end of their block
   block : List Stat → Thing

@@ -54,7 +54,8 @@ pub record IsWord (text : List ℕ) (t : Token) (texts : List (List ℕ)) (w : W
 pub data AreWords (text : List ℕ) : List Token → List Word → List (List ℕ) → Type 0 where
   no_words : AreWords text [] [] []
   more_words : {tokens : List Token} {words : List Word} {texts after : List (List ℕ)} {t : Token} {w : Word}
-      → AreWords text tokens words texts → IsWord text t texts w after → AreWords text (tokens ++ t ∷ []) (words ++ w ∷ []) after
+      → AreWords text tokens words texts → IsWord text t texts w after
+      → AreWords text (tokens ++ t ∷ []) (words ++ w ∷ []) after
 
 -- the text has this tree
 pub record HasTree (text : List ℕ) (chunk : Chunk) : Type 0 where

@@ -2,7 +2,8 @@ use crate::{Binary, Unary};
 use rs_whole::Whole;
 use sqlite_items::{Boxed, Items};
 
-/// A name where it is written: the number of its bytes among the texts of the chunk, its line, and the place of its first
+/// A name where it is written: the number of its bytes among the texts of the chunk, its line, and the place of its
+/// first
 /// byte, which no other name of the text has.
 #[derive(Clone, Copy, Debug, PartialEq, Eq)]
 pub struct Name {
@@ -32,7 +33,8 @@ pub enum Expr {
     Suffixed(Boxed<Expr>, Items<Suffix>),
     Table(Items<Field>),
     Unary(Unary, Boxed<Expr>),
-    /// The first operand of a row of binary operators of one precedence, and each operator with the operand behind it, one
+    /// The first operand of a row of binary operators of one precedence, and each operator with the operand behind it,
+    /// one
     /// or more, in order. A row of `..` or of `^` is grouped to the right, every other to the left.
     Row(Boxed<Expr>, Items<Link>),
 }
@@ -53,7 +55,7 @@ pub enum Suffix {
     Call(Call),
 }
 
-/// The row of a table that is meant.
+/// Which of a table's values is meant.
 #[cycle(expression)]
 #[derive(Drop)]
 pub enum Key {

@@ -21,7 +21,8 @@ pub enum Deed {
     Local(Items<Name>, Items<Expr>),
     /// `local function Name body`: the number of the body. The name is in scope in it.
     LocalFunction(Name, u32),
-    /// `function Name {. Name} [: Name] body`: the name, the fields behind it, that of the method last, and the number of
+    /// `function Name {. Name} [: Name] body`: the name, the fields behind it, that of the method last, and the number
+    /// of
     /// the body, which says whether it is a method's.
     Function(Name, Items<Name>, u32),
     /// `vars = exps`
@@ -59,8 +60,8 @@ pub struct Branch {
 #[derive(Drop)]
 pub enum Target {
     Name(Name),
-    /// A row of the table that the expression gives.
-    Row(Expr, Key),
+    /// What the table that the expression gives has at the key.
+    Index(Expr, Key),
 }
 
 /// `( [params] ) block end`

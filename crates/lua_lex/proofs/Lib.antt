@@ -4,6 +4,6 @@ pub mod LineLemmas
 pub mod PieceLemmas
 pub mod Prefixes
 pub mod ReadLemmas
-pub mod RowLemmas
+pub mod LexemeLemmas
 pub mod RuleLemmas
 pub mod ValueLemmas

@@ -14,11 +14,13 @@ is_pair b c = is_break b && (is_break c && not (b == c))
 abbrev pub breaks : List ℕ → ℕ
 breaks [] = 0
 breaks (b ∷ []) = if is_break b then 1 else 0
-breaks (b ∷ c ∷ text) = if is_pair b c then 1 + breaks text else (if is_break b then 1 + breaks (c ∷ text) else breaks (c ∷ text))
+breaks (b ∷ c ∷ text) = if is_pair b c then 1
+    + breaks text else (if is_break b then 1 + breaks (c ∷ text) else breaks (c ∷ text))
 
 -- the same, byte by byte: the count, and the break that may still begin a pair
 abbrev pub pass_byte : Lines → ℕ → Lines
-pass_byte lines b = if is_break b && not (is_pair lines.pending b) then record { breaks = lines.breaks + 1; pending = b } else record { breaks = lines.breaks; pending = 0 }
+pass_byte lines b = if is_break b && not (is_pair lines.pending b) then record
+    { breaks = lines.breaks + 1; pending = b } else record { breaks = lines.breaks; pending = 0 }
 
 abbrev pub pass : Lines → List ℕ → Lines
 pass lines bytes = fold pass_byte lines bytes

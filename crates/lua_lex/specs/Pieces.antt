@@ -44,7 +44,8 @@ abbrev pub IsPiece : ℕ → Piece → List ℕ → Type 0
 IsPiece quote (Piece.plain b) rest = (b ≢ quote) × (b ≢ 92) × (is_break b ≡ false)
 IsPiece quote (Piece.one_break b) rest = (is_break b ≡ true) × NoPair b rest
 IsPiece quote (Piece.two_breaks b c) rest = is_pair b c ≡ true
-IsPiece quote (Piece.digits ds) rest = AreDigits ds × (0 < length ds) × (length ds ≤ 3) × (digits_value 10 ds ≤ 255) × ((length ds ≡ 3) ⊎ NoDigit rest)
+IsPiece quote (Piece.digits ds) rest = AreDigits ds × (0 < length ds) × (length ds ≤ 3) × (digits_value 10 ds ≤ 255)
+    × ((length ds ≡ 3) ⊎ NoDigit rest)
 IsPiece quote (Piece.other b) rest = (is_break b ≡ false) × (is_ascii_digit b ≡ false)
 
 -- pieces one behind the other, with `rest` behind them
@@ -58,7 +59,8 @@ BreaksOff (b ∷ []) = (is_break b ≡ true) ⊎ (b ≡ 92)
 BreaksOff (b ∷ c ∷ text) = is_break b ≡ true
 
 abbrev pub EscapesTooFar : List ℕ → Type 0
-EscapesTooFar bad = (ds rest : List ℕ) × (bad ≡ 92 ∷ ds ++ rest) × AreDigits ds × (length ds ≡ 3) × (255 < digits_value 10 ds)
+EscapesTooFar bad = (ds rest : List ℕ) × (bad ≡ 92 ∷ ds ++ rest) × AreDigits ds × (length ds ≡ 3)
+    × (255 < digits_value 10 ds)
 
 -- what stands where no piece and no quote does: the end of the text, a line break, or a last backslash; or an escape of
 -- three digits past 255

@@ -1,5 +1,6 @@
 -- The lexical rules: what stands at the front of a text (Lua 5.1 manual, 2.1).
-use Rattle.std.specs.Prelude.{◌≡◌, ℕ, ◌+◌, Bool, ◌==◌, ◌&&◌, ◌||◌, not, if◌then◌else◌, List, [], ◌∷◌, ◌++◌, length, take, drop, Some, None, is_some, option_map, ok_or, Result, Ok, MatchResult, ℤ}
+use Rattle.std.specs.Prelude.{◌≡◌, ℕ, ◌+◌, Bool, ◌==◌, ◌&&◌, ◌||◌, not, if◌then◌else◌, List, [], ◌∷◌, ◌++◌, length}
+use Rattle.std.specs.Prelude.{take, drop, Some, None, is_some, option_map, ok_or, Result, Ok, MatchResult, ℤ}
 use Rattle.std.specs.Char.{is_ascii_digit}
 use Rattle.std.specs.List.{prefix_len}
 use Rattle.rs_whole.specs.Numerals.{is_space, Numeral, IsProper, numeral_text, StandsFor}
@@ -31,7 +32,7 @@ opens_long (b ∷ text) = b == 91 && is_some (level text)
 abbrev pub comment_class : List ℕ → Class
 comment_class text = if opens_long text then class.LongComment else class.LineComment
 
--- what the text begins with, as its first bytes tell
+-- the class of what the text begins with, as its first bytes tell
 unfoldable pub class_of : List ℕ → Class
 class_of [] = class.Symbol
 class_of (b ∷ text) = if is_space b then class.Blank
@@ -54,11 +55,13 @@ IsNumeral run = (numeral : Numeral) × IsProper numeral × (run ≡ numeral_text
 
 -- and stand for z
 abbrev pub IsNumber : List ℕ → ℤ → Type 0
-IsNumber run z = IsWhole z × IsNumeral run × ((numeral : Numeral) → IsProper numeral → run ≡ numeral_text numeral → StandsFor numeral z)
+IsNumber run z = IsWhole z × IsNumeral run × ((numeral : Numeral) → IsProper numeral → run ≡ numeral_text numeral
+    → StandsFor numeral z)
 
 -- they are a numeral, and stand for no whole number of 53 bits
 abbrev pub IsNoWhole : List ℕ → Type 0
-IsNoWhole run = IsNumeral run × ((numeral : Numeral) → IsProper numeral → run ≡ numeral_text numeral → (z : ℤ) → IsWhole z → StandsFor numeral z → ⊥)
+IsNoWhole run = IsNumeral run × ((numeral : Numeral) → IsProper numeral → run ≡ numeral_text numeral → (z : ℤ)
+    → IsWhole z → StandsFor numeral z → ⊥)
 
 abbrev pub NumeralFault : LexKind → List ℕ → Type 0
 NumeralFault fault.BadNumber run = IsNumeral run → ⊥
@@ -67,23 +70,28 @@ NumeralFault _ run = ⊥
 
 -- the longest numeral, and its number
 abbrev pub NumeralRule : List ℕ → Result Item LexKind → Type 0
-NumeralRule run found = MatchResult found (λ item. (z : ℤ) × IsNumber run z × (item ≡ token (kind.Number z) (length run))) (λ k. NumeralFault k run)
+NumeralRule run found = MatchResult found
+    (λ item. (z : ℤ) × IsNumber run z × (item ≡ token (kind.Number z) (length run))) (λ k. NumeralFault k run)
 
 -- pieces between two quotes, or pieces up to where they break off
 abbrev pub QuotedRule : List ℕ → Result Item LexKind → Type 0
 QuotedRule text found = MatchResult found
-    (λ item. (quote : ℕ) × (pieces : List Piece) × (rest : List ℕ) × ArePieces quote pieces (quote ∷ rest) × (text ≡ quote ∷ pieces_text pieces ++ quote ∷ rest) × (item ≡ token kind.Text (2 + length (pieces_text pieces))))
-    (λ k. (quote : ℕ) × (pieces : List Piece) × (bad : List ℕ) × ArePieces quote pieces bad × (text ≡ quote ∷ pieces_text pieces ++ bad) × IsBroken k bad)
+    (λ item. (quote : ℕ) × (pieces : List Piece) × (rest : List ℕ) × ArePieces quote pieces (quote ∷ rest)
+    × (text ≡ quote ∷ pieces_text pieces ++ quote ∷ rest) × (item ≡ token kind.Text (2 + length (pieces_text pieces))))
+    (λ k. (quote : ℕ) × (pieces : List Piece) × (bad : List ℕ) × ArePieces quote pieces bad
+    × (text ≡ quote ∷ pieces_text pieces ++ bad) × IsBroken k bad)
 
 -- what stands at the front of a text of each class
 abbrev pub Rule : Class → List ℕ → Result Item LexKind → Type 0
 Rule class.Blank text found = found ≡ Ok (gap 1)
 Rule class.LineComment text found = found ≡ Ok (gap (2 + prefix_len (λ b. not (is_break b)) (drop 2 text)))
-Rule class.LongComment text found = found ≡ ok_or (option_map (λ n. gap (3 + n)) (long_len (drop 3 text))) fault.OpenLong
+Rule class.LongComment text found = found ≡ ok_or (option_map (λ n. gap (3 + n)) (long_len (drop 3 text)))
+    fault.OpenLong
 Rule class.Word text found = found ≡ Ok (token (word_kind (take (name_len text) text)) (name_len text))
 Rule class.Numeral text found = NumeralRule (take (numeral_len text) text) found
 Rule class.Quoted text found = QuotedRule text found
-Rule class.LongString text found = found ≡ ok_or (option_map (λ n. token kind.Text (1 + n)) (long_len (drop 1 text))) fault.OpenLong
+Rule class.LongString text found = found ≡ ok_or (option_map (λ n. token kind.Text (1 + n)) (long_len (drop 1 text)))
+    fault.OpenLong
 Rule class.Symbol text found = found ≡ ok_or (option_map (λ s. token s.0 s.1) (symbol text)) fault.BadByte
 
 -- the text begins with this item, or with this fault

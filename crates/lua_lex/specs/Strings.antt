@@ -15,12 +15,14 @@ abbrev pub after_digits : ℕ → ℕ → List ℕ → Result (List ℕ) LexKind
 after_digits zero value text = Ok text
 after_digits (suc left) value [] = Ok []
 after_digits (suc left) value (b ∷ text) =
-    if is_ascii_digit b then (if nat_le (value * 10 + (b - 48)) 255 then after_digits left (value * 10 + (b - 48)) text else Err fault.BadEscape) else Ok (b ∷ text)
+    if is_ascii_digit b then (if nat_le (value * 10 + (b - 48)) 255 then after_digits left (value * 10 + (b - 48)) text
+    else Err fault.BadEscape) else Ok (b ∷ text)
 
 -- what follows an escape behind its backslash
 unfoldable pub after_escape : List ℕ → Result (List ℕ) LexKind
 after_escape [] = Err fault.OpenString
-after_escape (b ∷ text) = if is_break b then Ok (after_break b text) else (if is_ascii_digit b then after_digits 2 (b - 48) text else Ok text)
+after_escape (b ∷ text) = if is_break b then Ok (after_break b text)
+    else (if is_ascii_digit b then after_digits 2 (b - 48) text else Ok text)
 
 -- what follows the piece that begins with this byte
 unfoldable pub after_piece : ℕ → List ℕ → Result (List ℕ) LexKind

@@ -51,7 +51,8 @@ points (b ∷ text) = if b == 46 then (kind.Dots, 3) else (kind.Concat, 2)
 -- a symbol of two bytes or three that begins with this one
 unfoldable pub pair : ℕ → List ℕ → Option (TokenKind × ℕ)
 pair b [] = None
-pair b (c ∷ text) = if c == 61 then option_map (λ k. (k, 2)) (with_equal b) else (if c == 46 then (if b == 46 then Some (points text) else None) else None)
+pair b (c ∷ text) = if c == 61 then option_map (λ k. (k, 2)) (with_equal b)
+    else (if c == 46 then (if b == 46 then Some (points text) else None) else None)
 
 -- the longest symbol at the front of the text, and how many bytes it has
 unfoldable pub symbol : List ℕ → Option (TokenKind × ℕ)

@@ -16,13 +16,15 @@ pub record Lexeme : Type 0 where
 abbrev pub bytes_of : Lexeme → List ℕ
 bytes_of lexeme = lexeme.bytes
 
-abbrev pub row_text : List Lexeme → List ℕ
-row_text row = flat_map bytes_of row
+abbrev pub text_of : List Lexeme → List ℕ
+text_of lexemes = flat_map bytes_of lexemes
 
 -- lexemes one behind the other, each the one that the rules give there, with `rest` behind them
-abbrev pub IsRow : List Lexeme → List ℕ → Type 0
-IsRow [] rest = Unit {0}
-IsRow (x ∷ row) rest = (0 < length x.bytes) × IsFirst (x.bytes ++ (row_text row ++ rest)) (Ok (record { kind = x.kind; len = length x.bytes })) × IsRow row rest
+abbrev pub AreLexemes : List Lexeme → List ℕ → Type 0
+AreLexemes [] rest = Unit {0}
+AreLexemes (x ∷ lexemes) rest = (0 < length x.bytes)
+    × IsFirst (x.bytes ++ (text_of lexemes ++ rest)) (Ok (record { kind = x.kind; len = length x.bytes }))
+    × AreLexemes lexemes rest
 
 -- the token of this item, if it is one
 abbrev pub token_of : ℕ → ℕ → Option TokenKind → ℕ → List Token
@@ -35,21 +37,22 @@ token_from start line item = token_of start line item.kind item.len
 -- the tokens among them, behind the text `before`
 abbrev pub tokens_behind : List ℕ → List Lexeme → List Token
 tokens_behind before [] = []
-tokens_behind before (x ∷ row) = token_of (length before) (1 + breaks before) x.kind (length x.bytes) ++ tokens_behind (before ++ x.bytes) row
+tokens_behind before (x ∷ lexemes) = token_of (length before) (1 + breaks before) x.kind (length x.bytes)
+    ++ tokens_behind (before ++ x.bytes) lexemes
 
--- the text is a row of lexemes, and these are its tokens
+-- the text is these lexemes, and these are its tokens
 pub record HasTokens (text : List ℕ) (tokens : List Token) : Type 0 where
-  pub row : List Lexeme
-  pub is_row : IsRow row []
-  pub text_is : text ≡ row_text row
-  pub tokens_are : tokens ≡ tokens_behind [] row
+  pub lexemes : List Lexeme
+  pub are_lexemes : AreLexemes lexemes []
+  pub text_is : text ≡ text_of lexemes
+  pub tokens_are : tokens ≡ tokens_behind [] lexemes
 
--- behind a row of lexemes the text has this fault, on this line
+-- behind some lexemes the text has this fault, on this line
 pub record StopsAt (text : List ℕ) (line : ℕ) (kind : LexKind) : Type 0 where
-  pub row : List Lexeme
+  pub lexemes : List Lexeme
   pub bad : List ℕ
-  pub is_row : IsRow row bad
+  pub are_lexemes : AreLexemes lexemes bad
   pub some : 0 < length bad
   pub faulty : IsFirst bad (Err kind)
-  pub text_is : text ≡ row_text row ++ bad
-  pub line_is : line ≡ 1 + breaks (row_text row)
+  pub text_is : text ≡ text_of lexemes ++ bad
+  pub line_is : line ≡ 1 + breaks (text_of lexemes)

@@ -9,12 +9,14 @@ abbrev pub digits_byte : ℕ → ℕ → List ℕ → ℕ
 digits_byte zero value text = value
 digits_byte (suc left) value [] = value
 digits_byte (suc left) value (b ∷ text) =
-    if is_ascii_digit b then (if nat_le (value * 10 + (b - 48)) 255 then digits_byte left (value * 10 + (b - 48)) text else value) else value
+    if is_ascii_digit b then (if nat_le (value * 10 + (b - 48)) 255 then digits_byte left (value * 10 + (b - 48)) text
+    else value) else value
 
 -- the byte of an escape behind its backslash
 unfoldable pub escape_byte : List ℕ → ℕ
 escape_byte [] = 92
-escape_byte (b ∷ text) = if is_break b then 10 else (if is_ascii_digit b then digits_byte 2 (b - 48) text else letter_byte b)
+escape_byte (b ∷ text) = if is_break b then 10
+    else (if is_ascii_digit b then digits_byte 2 (b - 48) text else letter_byte b)
 
 -- the byte of the piece that begins with this byte
 unfoldable pub first_byte : ℕ → List ℕ → ℕ

@@ -1,5 +1,6 @@
 -- The bytes that a string stands for (Lua 5.1 manual, 2.1).
-use Rattle.std.specs.Prelude.{◌≡◌, ℕ, ◌+◌, ◌-◌, ◌==◌, ◌⊎◌, if◌then◌else◌, List, [], ◌∷◌, ◌++◌, length, map, take, drop, Some}
+use Rattle.std.specs.Prelude.{◌≡◌, ℕ, ◌+◌, ◌-◌, ◌==◌, ◌⊎◌, if◌then◌else◌, List, [], ◌∷◌, ◌++◌, length, map, take, drop}
+use Rattle.std.specs.Prelude.{Some}
 use Rattle.std.specs.Str.Parse.{digits_value}
 use Rattle.lua_lex.specs.Lines.{is_break, is_pair}
 use Rattle.lua_lex.specs.Long.{level, long_len}
@@ -29,7 +30,8 @@ piece_byte (Piece.other b) = letter_byte b
 abbrev pub line_feeds : List ℕ → List ℕ
 line_feeds [] = []
 line_feeds (b ∷ []) = (if is_break b then 10 else b) ∷ []
-line_feeds (b ∷ c ∷ text) = if is_pair b c then 10 ∷ line_feeds text else ((if is_break b then 10 else b) ∷ line_feeds (c ∷ text))
+line_feeds (b ∷ c ∷ text) = if is_pair b c then 10
+    ∷ line_feeds text else ((if is_break b then 10 else b) ∷ line_feeds (c ∷ text))
 
 -- the text without a line break at its front
 abbrev pub without_break : List ℕ → List ℕ
@@ -52,7 +54,8 @@ pub record IsLong (text bytes : List ℕ) : Type 0 where
   pub text_is : text ≡ 91 ∷ bracket
   pub opened : level bracket ≡ Some at
   pub closed : long_len bracket ≡ Some (length bracket)
-  pub bytes_are : bytes ≡ line_feeds (without_break (take (length bracket - (at + 2 + (at + 1))) (drop (at + 1) bracket)))
+  pub bytes_are : bytes ≡ line_feeds (without_break
+      (take (length bracket - (at + 2 + (at + 1))) (drop (at + 1) bracket)))
 
 -- the text is one string that stands for these bytes
 abbrev pub IsString : List ℕ → List ℕ → Type 0

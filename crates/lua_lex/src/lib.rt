@@ -7,14 +7,12 @@ mod lines;
 mod long;
 mod quotes;
 mod runs;
-mod scanning;
+mod scanner;
 mod symbols;
-#[cfg(test)]
-mod tests;
 mod values;
 mod words;
 
 pub use kinds::{LexKind, LexStop, Token, TokenKind, TokenList};
 pub use lines::last_line;
-pub use scanning::{one_token_list, tokens};
+pub use scanner::{one_token_list, tokens};
 pub use values::string_bytes;

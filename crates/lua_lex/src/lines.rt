@@ -1,7 +1,8 @@
 ghost use Rattle.std.specs.Prelude.{◌≡◌, ◌+◌, ◌<◌, ◌^◌, length};
 ghost use Rattle.lua_lex.specs.Lines.{breaks, is_break, is_pair};
 
-/// The line breaks of the bytes that were passed: CR, LF, CR LF and LF CR are each one. `pending` is the break byte that
+/// The line breaks of the bytes that were passed: CR, LF, CR LF and LF CR are each one. `pending` is the break byte
+/// that
 /// was passed last and may still begin a pair, or 0.
 #[derive(Clone, Copy)]
 pub struct Lines {

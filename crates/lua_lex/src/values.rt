@@ -9,7 +9,8 @@ use crate::quotes::{after_break, after_piece};
 use rs_base::{Bytes, NoMemory};
 use std::alloc::Global;
 
-/// The bytes that the string `text` stands for, as a token `Text` has it (Lua 5.1 manual, 2.1). `Ok(None)` exactly where
+/// The bytes that the string `text` stands for, as a token `Text` has it (Lua 5.1 manual, 2.1). `Ok(None)` exactly
+/// where
 /// `text` is no string.
 pub fn string_bytes(alloc: Global, text: &[u8]) -> Result<Option<Bytes>, NoMemory>
     ensures found { IfOk result (λ found. IfSome found (IsString text.now)) }
@@ -27,8 +28,10 @@ pub fn string_bytes(alloc: Global, text: &[u8]) -> Result<Option<Bytes>, NoMemor
 fn quoted_bytes(alloc: Global, quote: u8, text: &[u8]) -> Result<Option<Bytes>, NoMemory>
     requires { (quote ≡ 34) ⊎ (quote ≡ 39) }
     ensures found { IfOk result (λ found. IfSome found (λ bytes. (pieces : List Piece)
-        × ArePieces quote pieces (quote ∷ []) × (text.now ≡ pieces_text pieces ++ quote ∷ []) × (bytes ≡ map piece_byte pieces))) }
-    ensures only { (pieces : List Piece) → ArePieces quote pieces (quote ∷ []) → text.now ≡ pieces_text pieces ++ quote ∷ []
+        × ArePieces quote pieces (quote ∷ []) × (text.now ≡ pieces_text pieces ++ quote ∷ [])
+        × (bytes ≡ map piece_byte pieces))) }
+    ensures only { (pieces : List Piece) → ArePieces quote pieces (quote ∷ []) → text.now ≡ pieces_text pieces ++ quote
+        ∷ []
         → IfOk result (λ found. found ≡ Some (map piece_byte pieces)) }
 {
     let mut bytes = Bytes::new(alloc);

@@ -22,50 +22,76 @@ pub fn word_kind(word: &[u8]) -> TokenKind
 fn of_two(word: &[u8]) -> TokenKind
     ensures { result ≡ of_two word.now }
 {
-    match word {
-        b"do" => TokenKind::Do,
-        b"if" => TokenKind::If,
-        b"in" => TokenKind::In,
-        b"or" => TokenKind::Or,
-        _ => TokenKind::Name,
+    if word == b"do".as_slice() {
+        return TokenKind::Do;
     }
+    if word == b"if".as_slice() {
+        return TokenKind::If;
+    }
+    if word == b"in".as_slice() {
+        return TokenKind::In;
+    }
+    if word == b"or".as_slice() {
+        return TokenKind::Or;
+    }
+    TokenKind::Name
 }
 
 fn of_three(word: &[u8]) -> TokenKind
     ensures { result ≡ of_three word.now }
 {
-    match word {
-        b"and" => TokenKind::And,
-        b"end" => TokenKind::End,
-        b"for" => TokenKind::For,
-        b"nil" => TokenKind::Nil,
-        b"not" => TokenKind::Not,
-        _ => TokenKind::Name,
+    if word == b"and".as_slice() {
+        return TokenKind::And;
     }
+    if word == b"end".as_slice() {
+        return TokenKind::End;
+    }
+    if word == b"for".as_slice() {
+        return TokenKind::For;
+    }
+    if word == b"nil".as_slice() {
+        return TokenKind::Nil;
+    }
+    if word == b"not".as_slice() {
+        return TokenKind::Not;
+    }
+    TokenKind::Name
 }
 
 fn of_four(word: &[u8]) -> TokenKind
     ensures { result ≡ of_four word.now }
 {
-    match word {
-        b"else" => TokenKind::Else,
-        b"then" => TokenKind::Then,
-        b"true" => TokenKind::True,
-        _ => TokenKind::Name,
+    if word == b"else".as_slice() {
+        return TokenKind::Else;
     }
+    if word == b"then".as_slice() {
+        return TokenKind::Then;
+    }
+    if word == b"true".as_slice() {
+        return TokenKind::True;
+    }
+    TokenKind::Name
 }
 
 fn of_five(word: &[u8]) -> TokenKind
     ensures { result ≡ of_five word.now }
 {
-    match word {
-        b"break" => TokenKind::Break,
-        b"false" => TokenKind::False,
-        b"local" => TokenKind::Local,
-        b"until" => TokenKind::Until,
-        b"while" => TokenKind::While,
-        _ => TokenKind::Name,
+    if word == b"break".as_slice() {
+        return TokenKind::Break;
     }
+    if word == b"false".as_slice() {
+        return TokenKind::False;
+    }
+    if word == b"local".as_slice() {
+        return TokenKind::Local;
+    }
+    if word == b"until".as_slice() {
+        return TokenKind::Until;
+    }
+    if word == b"while".as_slice() {
+        return TokenKind::While;
+    }
+    TokenKind::Name
 }
 
 fn of_six(word: &[u8]) -> TokenKind

@@ -309,9 +309,12 @@ same kind.Name mark = refl
 same kind.Text mark = refl
 same (kind.Number n) mark = absurd mark
 
-pub sees_is : (found : Option TokenKind) (k : TokenKind) → IsMark k → IsTrue (option_eq eq-value.it found (Some k)) → found ≡ Some k
+pub sees_is : (found : Option TokenKind) (k : TokenKind) → IsMark k → IsTrue (option_eq eq-value.it found (Some k))
+    → found ≡ Some k
 sees_is (Some a) k mark e = ap Some (is_same a k mark e)
 sees_is None k mark e = differ e
 
-pub is_sees : (found : Option TokenKind) (k : TokenKind) → IsMark k → found ≡ Some k → IsTrue (option_eq eq-value.it found (Some k))
-is_sees found k mark e = let P : Option TokenKind → Type 0 = λ o. IsTrue (option_eq eq-value.it o (Some k)) in subst P (sym e) (same k mark)
+pub is_sees : (found : Option TokenKind) (k : TokenKind) → IsMark k → found ≡ Some k
+    → IsTrue (option_eq eq-value.it found (Some k))
+is_sees found k mark e = let P : Option TokenKind → Type 0 = λ o. IsTrue (option_eq eq-value.it o (Some k)) in
+    subst P (sym e) (same k mark)

@@ -1,5 +1,6 @@
 -- What a word that was seen tells of the step behind it.
-use Rattle.std.proofs.Common.{◌≡◌, ◌≢◌, ◌↔◌, ℕ, suc, Bool, true, false, IsTrue, List, Option, Some, None, option_and_then, IsSome, subst, refl}
+use Rattle.std.proofs.Common.{◌≡◌, ◌≢◌, ◌↔◌, ℕ, suc, Bool, true, false, IsTrue, List, Option, Some, None}
+use Rattle.std.proofs.Common.{option_and_then, IsSome, subst, refl}
 use Rattle.lua_lex.specs.declared.kinds.TokenKind.{TokenKind}
 use Rattle.lua_lex.specs.declared.kinds.TokenKind.TheVariants as kind
 use Rattle.lua_grammar.specs.declared.context.Context.{Context}
@@ -9,7 +10,7 @@ use Rattle.lua_grammar.specs.declared.operators.Unary.{Unary}
 use Rattle.lua_grammar.specs.Operators.{binary_operator, unary_operator}
 use Rattle.lua_grammar.specs.Positions as at
 use Rattle.lua_grammar.specs.Positions.{Position}
-use Rattle.lua_grammar.specs.Rows.{begins_last}
+use Rattle.lua_grammar.specs.Productions.{begins_last}
 use Rattle.lua_grammar.specs.Stuck.{begins_deed}
 use Rattle.lua_grammar.specs.Contexts.{every_rule}
 use Rattle.lua_grammar.specs.Things as thing
@@ -30,14 +31,17 @@ separator_passes {i} {j} e taken = record { some = separator_some (at.kind i) e;
 pub separator_eats : {i j : Position} → at.is_separator (at.kind i) ≡ true → j ≡ at.next i → Eats i j
 separator_eats {i} {j} e taken = eats_to taken (eats_some i (separator_some (at.kind i) e))
 
-pub joint_some : (rank : ℕ) (by : Binary) (k : Option TokenKind) → at.of_rank rank (option_and_then binary_operator k) ≡ Some by → IsSome k
+pub joint_some : (rank : ℕ) (by : Binary) (k : Option TokenKind) → at.of_rank rank (option_and_then binary_operator k)
+    ≡ Some by → IsSome k
 joint_some rank by None e = absurd (cc)
 joint_some rank by (Some k) e = refl
 
-pub operator_passes : (rank : ℕ) {by : Binary} {i j : Position} → at.joint rank i ≡ Some by → j ≡ at.next (record i { operators = suc i.operators }) → at.PassesOperator i j
+pub operator_passes : (rank : ℕ) {by : Binary} {i j : Position} → at.joint rank i ≡ Some by
+    → j ≡ at.next (record i { operators = suc i.operators }) → at.PassesOperator i j
 operator_passes rank {by} {i} {j} e taken = record { some = joint_some rank by (at.kind i) e; taken = taken }
 
-pub operator_eats : (rank : ℕ) {by : Binary} {i j : Position} → at.joint rank i ≡ Some by → j ≡ at.next (record i { operators = suc i.operators }) → Eats i j
+pub operator_eats : (rank : ℕ) {by : Binary} {i j : Position} → at.joint rank i ≡ Some by
+    → j ≡ at.next (record i { operators = suc i.operators }) → Eats i j
 operator_eats rank {by} {i} {j} e taken =
     let counted : Position = record i { operators = suc i.operators } in
     let eats : Eats counted (at.next counted) = eats_some counted (joint_some rank by (at.kind i) e) in
@@ -57,7 +61,8 @@ named_is (Some kind.Name) (Some kind.Assign) e = (refl, refl)
 named_is v w e = absurd (cc)
 
 not_assigned : (v w : Option TokenKind) → at.is_named v w ≡ false → v ≡ Some kind.Name → w ≢ Some kind.Assign
-not_assigned v w e named = λ assigned. let is : at.is_named v w ≡ true = rw (named, assigned) refl in absurd (cc (e, is))
+not_assigned v w e named = λ assigned. let is : at.is_named v w ≡ true = rw (named, assigned) refl in
+    absurd (cc (e, is))
 
 pub no_assign_behind : {c : Context} {names : List Name} {i j : Position} → at.names_field i ≡ false
     → Spelled every_rule c (thing.names names) i j → at.SeesNot kind.Assign (at.next i)
@@ -71,8 +76,10 @@ return_is (Some kind.Break) e other = absurd (other refl)
 return_is (Some kind.Return) e other = refl
 return_is w e other = absurd (cc)
 
-pub no_deed : (w : Option TokenKind) → w ≢ Some kind.Do → w ≢ Some kind.While → w ≢ Some kind.Repeat → w ≢ Some kind.If → w ≢ Some kind.For
-    → w ≢ Some kind.Function → w ≢ Some kind.Local → w ≢ Some kind.Name → w ≢ Some kind.LeftParen → begins_deed w ≡ false
+pub no_deed : (w : Option TokenKind) → w ≢ Some kind.Do → w ≢ Some kind.While → w ≢ Some kind.Repeat → w ≢ Some kind.If
+    → w ≢ Some kind.For
+    → w ≢ Some kind.Function → w ≢ Some kind.Local → w ≢ Some kind.Name → w ≢ Some kind.LeftParen
+    → begins_deed w ≡ false
 no_deed (Some kind.Do) a b d e f g h k m = absurd (a refl)
 no_deed (Some kind.While) a b d e f g h k m = absurd (b refl)
 no_deed (Some kind.Repeat) a b d e f g h k m = absurd (d refl)

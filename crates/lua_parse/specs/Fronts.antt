@@ -8,6 +8,7 @@ use Rattle.lua_grammar.specs.declared.expressions.Suffix.{Suffix}
 use Rattle.lua_grammar.specs.declared.expressions.Suffix.TheVariants as suffix_of
 use Rattle.lua_grammar.specs.declared.statements.Target.TheVariants as target_of
 use Rattle.lua_grammar.specs.Positions.{Position, ResumesExpression}
+use Rattle.lua_grammar.specs.Classes.{Sought}
 use Rattle.lua_grammar.specs.Stuck.{fresh}
 use Rattle.lua_parse.specs.Nests.{IsSpared}
 use Rattle.lua_grammar.specs.Contexts.{every_rule}
@@ -20,16 +21,18 @@ use Rattle.lua_parse.specs.declared.trees.Front.TheVariants as front
 -- what a head and its suffixes are at the front of a statement
 abbrev pub FrontOf : Expr → List Suffix → Front → Type 0
 FrontOf head all (front.Target (target_of.Name n)) = (head ≡ expr.Name n) × (all ≡ [])
-FrontOf head all (front.Target (target_of.Row e k)) = (suffixes : List Suffix) × (e ≡ suffixed head suffixes) × (all ≡ suffixes ++ suffix_of.Key k ∷ [])
-FrontOf head all (front.Call e how) = (suffixes : List Suffix) × (e ≡ suffixed head suffixes) × (all ≡ suffixes ++ suffix_of.Call how ∷ [])
+FrontOf head all (front.Target (target_of.Index e k)) = (suffixes : List Suffix) × (e ≡ suffixed head suffixes)
+    × (all ≡ suffixes ++ suffix_of.Key k ∷ [])
+FrontOf head all (front.Call e how) = (suffixes : List Suffix) × (e ≡ suffixed head suffixes)
+    × (all ≡ suffixes ++ suffix_of.Call how ∷ [])
 FrontOf head all front.Neither = (all ≡ []) × ((n : Name) → head ≡ expr.Name n → ⊥)
 
 -- a head and its suffixes were read that are this front, as an expression of their own
-pub record IsFront (c : Context) (spared : ℕ) (found : Front) (i j : Position) : Type 0 where
+pub record IsFront (c : Context) (sought : Sought) (found : Front) (i j : Position) : Type 0 where
   pub head : Expr
   pub all : List Suffix
   pub behind : Position
   pub spelled : Spelled every_rule c (thing.chain head all) (fresh i) behind
   pub resumes : ResumesExpression i behind j
-  pub few : IsSpared spared all behind
+  pub few : IsSpared sought all behind
   pub is : FrontOf head all found

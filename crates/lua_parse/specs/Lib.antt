@@ -2,7 +2,8 @@ pub mod Cursor
 pub mod Fronts
 pub mod Nests
 pub mod Numbers
+pub mod Sought
 pub mod Steps
 pub mod Views
-pub mod Refusals
+pub mod Halts
 pub mod Stops

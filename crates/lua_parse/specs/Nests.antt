@@ -1,5 +1,6 @@
 -- What productions read, and a function value that reads those of the next level of nesting.
-use Rattle.std.specs.Prelude.{◌≡◌, ℕ, ◌+◌, ◌<◌, Bool, true, false, if◌then◌else◌, List, [], ◌∷◌, ◌++◌, Option, Result, MatchResult}
+use Rattle.std.specs.Prelude.{◌≡◌, ℕ, ◌+◌, ◌<◌, Bool, true, false, if◌then◌else◌, List, [], ◌∷◌, ◌++◌, Option, Result}
+use Rattle.std.specs.Prelude.{MatchResult}
 use Rattle.lua_lex.specs.declared.kinds.TokenKind.{TokenKind}
 use Rattle.lua_lex.specs.declared.kinds.TokenKind.TheVariants as kind
 use Rattle.std.specs.declared.alloc.Global.{Global}
@@ -24,9 +25,11 @@ use Rattle.lua_parse.specs.declared.grammar.Wanted.{Wanted}
 use Rattle.lua_parse.specs.declared.grammar.Wanted.TheVariants as wanted
 use Rattle.lua_parse.specs.declared.grammar.Found.{Found}
 use Rattle.lua_parse.specs.declared.grammar.Found.TheVariants as found
-use Rattle.lua_parse.specs.declared.stops.Refusal.{Refusal}
-use Rattle.lua_parse.specs.Refusals.{IsRefused, spares}
+use Rattle.lua_parse.specs.declared.stops.Halt.{Halt}
+use Rattle.lua_parse.specs.Halts.{IsRefused}
+use Rattle.lua_parse.specs.Sought.{spares}
 
+-- what was found is what is wanted, in this context, spelled by the words between two positions
 abbrev pub IsFound : Wanted → Context → Found → Position → Position → Type 0
 IsFound wanted.Expression c (found.Expression e) i j = Spelled every_rule c (thing.expression e) i j
 IsFound wanted.List c (found.List es) i j = Spelled every_rule c (thing.list es) i j
@@ -35,7 +38,7 @@ IsFound wanted.Operand c (found.Expression e) i j = Spelled every_rule c (thing.
 IsFound wanted.Block c (found.Block block) i j = Spelled every_rule c (thing.block block) i j
 IsFound _ _ _ _ _ = ⊥
 
--- what is wanted, as a class
+-- the class of what is wanted
 abbrev pub class_of : Wanted → Class
 class_of wanted.Expression = class.expression
 class_of wanted.List = class.list
@@ -43,28 +46,31 @@ class_of wanted.Fields = class.fields
 class_of wanted.Operand = class.operand 7
 class_of wanted.Block = class.block
 
-abbrev pub Finds : Wanted → Context → Result Found Refusal → Position → Position → Type 0
+-- what is wanted was found, or nothing of its class is read
+abbrev pub Finds : Wanted → Context → Result Found Halt → Position → Position → Type 0
 Finds w c result i j = MatchResult result (λ f. IsFound w c f i j) (λ r. IsRefused r c (class_of w) i j)
 
--- behind suffixes that end in a call as many are left as are spared
-abbrev pub IsSpared : ℕ → List Suffix → Position → Type 0
-IsSpared spared all j = spared ≡ 1 → EndsInCall all → j.suffixes < 1000
+-- where a target is sought, behind suffixes that end in a call one more is within the limit
+abbrev pub IsSpared : Sought → List Suffix → Position → Type 0
+IsSpared sought all j = sought ≡ class.target → EndsInCall all → j.suffixes < 1000
 
-pub record IsChain (c : Context) (spared : ℕ) (head : Expr) (all : List Suffix) (i j : Position) : Type 0 where
+-- a head and its suffixes were read, and a suffix is left where one is spared
+pub record IsChain (c : Context) (sought : Sought) (head : Expr) (all : List Suffix) (i j : Position) : Type 0 where
   pub spelled : Spelled every_rule c (thing.chain head all) i j
-  pub few : IsSpared spared all j
+  pub few : IsSpared sought all j
 
-pub record AreSuffixes (c : Context) (spared : ℕ) (all : List Suffix) (i j : Position) : Type 0 where
+-- suffixes were read, and one is left where one is spared
+pub record AreSuffixes (c : Context) (sought : Sought) (all : List Suffix) (i j : Position) : Type 0 where
   pub spelled : Spelled every_rule c (thing.suffixes all) i j
-  pub few : IsSpared spared all j
+  pub few : IsSpared sought all j
 
 -- a suffix that is within the limit, and counted
-pub record IsCounted (c : Context) (spared : ℕ) (suffix : Suffix) (i k : Position) : Type 0 where
+pub record IsCounted (c : Context) (sought : Sought) (suffix : Suffix) (i k : Position) : Type 0 where
   pub counted : Position
-  pub room : (sought : Sought) → spares sought ≡ spared → HasCount sought i
+  pub room : HasCount sought i
   pub counts : CountsSuffix i counted
   pub spelled : Spelled every_rule c (thing.suffix suffix) counted k
-  pub few : IsSpared spared (suffix ∷ []) k
+  pub few : IsSpared sought (suffix ∷ []) k
 
 -- the first word of a suffix is on the line of the word before it where it has to be, and the suffix may nest
 pub record HasSuffixRoom (c : Context) (i : Position) : Type 0 where
@@ -72,8 +78,8 @@ pub record HasSuffixRoom (c : Context) (i : Position) : Type 0 where
   pub level : nests_suffix (at.kind i) ≡ true → c.level < 60
 
 -- how many suffixes a suffix that begins with this word leaves to come: a call leaves those that are spared
-abbrev pub spared_behind : Option TokenKind → ℕ → ℕ
-spared_behind w spared = if begins_call w then spared else 0
+abbrev pub spared_behind : Option TokenKind → Sought → ℕ
+spared_behind w sought = if begins_call w then spares sought else 0
 
 -- an operand that is no constant begins with this word
 abbrev pub begins_other : TokenKind → Bool
@@ -90,17 +96,20 @@ pub record EndsBlock (c : Context) (last : Stat) (i j : Position) : Type 0 where
   pub ends : ends_block (at.kind j) ≡ true
 
 -- `Name body` behind the `:` of a function's name, and the statement that is made of it
-pub record IsMethod (c : Context) (line : ℕ) (name : Name) (path : List Name) (deed : Deed) (i k : Position) : Type 0 where
-  pub last : Name
-  pub number : ℕ
-  pub named : Position
-  pub takes : at.TakesName last i named
-  pub spelled : Spelled every_rule c (thing.function_body line true number) named k
-  pub is : deed ≡ deed_of.Function name (path ++ last ∷ []) number
+pub record IsMethod (c : Context) (line : ℕ) (name : Name) (path : List Name) (deed : Deed) (i k : Position) : Type 0
+  where
+    pub last : Name
+    pub number : ℕ
+    pub named : Position
+    pub takes : at.TakesName last i named
+    pub spelled : Spelled every_rule c (thing.function_body line true number) named k
+    pub is : deed ≡ deed_of.Function name (path ++ last ∷ []) number
 
 -- the function value reads what is wanted in each context that is a level deeper than this one
 pub record Nests (level : ℕ) (pre : Global → MutBor Position → Context → Wanted → Type 0)
-    (post : Global → MutBor Position → Context → Wanted → Result Found Refusal → MutBor Position → Type 0) : Type 0 where
-  pub callable : (alloc : Global) (old : MutBor Position) (c : Context) (w : Wanted) → level < 60 → c.level ≡ level + 1 → pre alloc old c w
-  pub reads : (alloc : Global) (old new : MutBor Position) (c : Context) (w : Wanted) (result : Result Found Refusal) → post alloc old c w result new
+    (post : Global → MutBor Position → Context → Wanted → Result Found Halt → MutBor Position → Type 0) : Type 0 where
+  pub callable : (alloc : Global) (old : MutBor Position) (c : Context) (w : Wanted) → level < 60 → c.level ≡ level + 1
+      → pre alloc old c w
+  pub reads : (alloc : Global) (old new : MutBor Position) (c : Context) (w : Wanted) (result : Result Found Halt)
+      → post alloc old c w result new
       → Finds w c result old.now new.now

@@ -4,11 +4,13 @@ use Rattle.lua_lex.specs.declared.kinds.TokenKind.TheVariants as kind
 use Rattle.lua_lex.specs.declared.kinds.Token.{Token}
 use Rattle.lua_lex.specs.Values.{IsString}
 use Rattle.lua_grammar.specs.Trees.{spelling}
-use Rattle.lua_parse.specs.declared.numbering.Texts.{Texts}
+use Rattle.lua_parse.specs.declared.interner.Texts.{Texts}
 
+-- the texts that are known, in the order of their numbers
 abbrev pub texts_of : Texts → List (List ℕ)
 texts_of t = map (λ k. k.items) t.known.keys
 
+-- the bytes are a string of a text, as it is written
 abbrev pub IsSomeString : List ℕ → Type 0
 IsSomeString spelled = (bytes : List ℕ) × IsString spelled bytes
 

@@ -8,22 +8,23 @@ ghost use Rattle.lua_grammar.specs.Classes as class;
 ghost use Rattle.lua_grammar.specs.Things as thing;
 ghost use Rattle.lua_grammar.specs.Contexts.{every_rule};
 ghost use Rattle.lua_grammar.specs.Grammar.{Spelled};
-ghost use Rattle.lua_grammar.specs.Rows.{begins_chain};
+ghost use Rattle.lua_grammar.specs.Productions.{begins_chain};
 ghost use Rattle.lua_parse.specs.Nests.{Nests, begins_other};
-ghost use Rattle.lua_parse.specs.Refusals.{IsRefused, Reads};
+ghost use Rattle.lua_parse.specs.Halts.{IsRefused, Reads};
 
 use crate::grammar::{Found, Grammar, Wanted};
 use crate::reader::Reader;
-use crate::stops::Refusal;
+use crate::sought::Sought;
+use crate::stops::Halt;
 use crate::trees::{exact, row, suffixed};
 use lua_grammar::{Context, Expr, Link, SyntaxKind, Unary};
 use lua_lex::TokenKind;
 use sqlite_items::{Boxed, Items};
 use std::alloc::Global;
 
-impl<F: Fn(Global, &mut Reader<'_>, Context, Wanted) -> Result<Found, Refusal>> Grammar<F> {
+impl<F: Fn(Global, &mut Reader<'_>, Context, Wanted) -> Result<Found, Halt>> Grammar<F> {
     /// exp: its operators and suffixes are counted by themselves.
-    pub fn expression(&self, reader: &mut Reader<'_>) -> Result<Expr, Refusal>
+    pub fn expression(&self, reader: &mut Reader<'_>) -> Result<Expr, Halt>
         requires nests { Nests self.now.context.level (F.pre self.now.nested) (F.post self.now.nested) }
         ensures { Reads self.now.context class.expression thing.expression result reader.old reader.new }
     {
@@ -35,7 +36,7 @@ impl<F: Fn(Global, &mut Reader<'_>, Context, Wanted) -> Result<Found, Refusal>> 
 
     /// Operands of the next rank, with operators of this rank between them.
     #[cycle(operand)]
-    fn operand(&self, reader: &mut Reader<'_>, rank: u8) -> Result<Expr, Refusal>
+    fn operand(&self, reader: &mut Reader<'_>, rank: u8) -> Result<Expr, Halt>
         requires nests { Nests self.now.context.level (F.pre self.now.nested) (F.post self.now.nested) }
         requires rank { rank ≤ 7 }
         ensures { Reads self.now.context (class.operand rank) (thing.operand rank) result reader.old reader.new }
@@ -50,7 +51,7 @@ impl<F: Fn(Global, &mut Reader<'_>, Context, Wanted) -> Result<Found, Refusal>> 
 
     /// The operators of this rank that come, each with the operand behind it.
     #[cycle(operand)]
-    fn links(&self, reader: &mut Reader<'_>, rank: u8) -> Result<Items<Link>, Refusal>
+    fn links(&self, reader: &mut Reader<'_>, rank: u8) -> Result<Items<Link>, Halt>
         requires nests { Nests self.now.context.level (F.pre self.now.nested) (F.post self.now.nested) }
         requires rank { rank ≤ 6 }
         ensures { Reads self.now.context (class.links rank) (thing.links rank) result reader.old reader.new }
@@ -67,7 +68,7 @@ impl<F: Fn(Global, &mut Reader<'_>, Context, Wanted) -> Result<Found, Refusal>> 
     }
 
     /// unop exp, or a row of `^`.
-    pub fn power(&self, reader: &mut Reader<'_>) -> Result<Expr, Refusal>
+    pub fn power(&self, reader: &mut Reader<'_>) -> Result<Expr, Halt>
         requires nests { Nests self.now.context.level (F.pre self.now.nested) (F.post self.now.nested) }
         ensures { Reads self.now.context (class.operand 7) (thing.operand 7) result reader.old reader.new }
     {
@@ -80,7 +81,7 @@ impl<F: Fn(Global, &mut Reader<'_>, Context, Wanted) -> Result<Found, Refusal>> 
     }
 
     /// Each `^` that comes, with the exponent behind it.
-    fn powers(&self, reader: &mut Reader<'_>) -> Result<Items<Link>, Refusal>
+    fn powers(&self, reader: &mut Reader<'_>) -> Result<Items<Link>, Halt>
         requires nests { Nests self.now.context.level (F.pre self.now.nested) (F.post self.now.nested) }
         ensures { Reads self.now.context (class.links 7) (thing.links 7) result reader.old reader.new }
     {
@@ -96,7 +97,7 @@ impl<F: Fn(Global, &mut Reader<'_>, Context, Wanted) -> Result<Found, Refusal>> 
     }
 
     /// What stands behind `^`.
-    fn exponent(&self, reader: &mut Reader<'_>) -> Result<Expr, Refusal>
+    fn exponent(&self, reader: &mut Reader<'_>) -> Result<Expr, Halt>
         requires nests { Nests self.now.context.level (F.pre self.now.nested) (F.post self.now.nested) }
         ensures { Reads self.now.context (class.operand 8) (thing.operand 8) result reader.old reader.new }
     {
@@ -108,7 +109,7 @@ impl<F: Fn(Global, &mut Reader<'_>, Context, Wanted) -> Result<Found, Refusal>> 
     }
 
     /// unop exp: the operand is a level deeper.
-    fn unary(&self, reader: &mut Reader<'_>, by: Unary) -> Result<Expr, Refusal>
+    fn unary(&self, reader: &mut Reader<'_>, by: Unary) -> Result<Expr, Halt>
         requires nests { Nests self.now.context.level (F.pre self.now.nested) (F.post self.now.nested) }
         requires sign { at.sign reader.old ≡ Some by }
         ensures operand { Reads self.now.context (class.operand 7) (thing.operand 7) result reader.old reader.new }
@@ -121,7 +122,7 @@ impl<F: Fn(Global, &mut Reader<'_>, Context, Wanted) -> Result<Found, Refusal>> 
     }
 
     /// An operand without operators.
-    fn simple(&self, reader: &mut Reader<'_>) -> Result<Expr, Refusal>
+    fn simple(&self, reader: &mut Reader<'_>) -> Result<Expr, Halt>
         requires nests { Nests self.now.context.level (F.pre self.now.nested) (F.post self.now.nested) }
         ensures { Reads self.now.context class.simple thing.simple result reader.old reader.new }
     {
@@ -138,16 +139,16 @@ impl<F: Fn(Global, &mut Reader<'_>, Context, Wanted) -> Result<Found, Refusal>> 
     }
 
     /// A name or a parenthesis, with all that goes on with it.
-    fn prefix(&self, reader: &mut Reader<'_>) -> Result<Expr, Refusal>
+    fn prefix(&self, reader: &mut Reader<'_>) -> Result<Expr, Halt>
         requires nests { Nests self.now.context.level (F.pre self.now.nested) (F.post self.now.nested) }
         requires begins { begins_chain (at.kind reader.old) ≡ true }
         ensures { Reads self.now.context class.simple thing.simple result reader.old reader.new }
     {
-        let (head, suffixes) = self.chain(reader, 0)?;
+        let (head, suffixes) = self.chain(reader, Sought::Anything)?;
         Ok(suffixed(self.alloc, head, suffixes)?)
     }
 
-    fn table(&self, reader: &mut Reader<'_>) -> Result<Expr, Refusal>
+    fn table(&self, reader: &mut Reader<'_>) -> Result<Expr, Halt>
         requires nests { Nests self.now.context.level (F.pre self.now.nested) (F.post self.now.nested) }
         requires seen { at.Sees kind.LeftBrace reader.old }
         ensures { Reads self.now.context class.simple thing.simple result reader.old reader.new }
@@ -155,19 +156,19 @@ impl<F: Fn(Global, &mut Reader<'_>, Context, Wanted) -> Result<Found, Refusal>> 
         Ok(Expr::Table(self.constructor(reader)?))
     }
 
-    fn varargs(&self, reader: &mut Reader<'_>) -> Result<Expr, Refusal>
+    fn varargs(&self, reader: &mut Reader<'_>) -> Result<Expr, Halt>
         requires { at.Sees kind.Dots reader.old }
         ensures { Reads self.now.context class.simple thing.simple result reader.old reader.new }
     {
         if !self.context.varargs {
-            return Err(Refusal::Syntax(SyntaxKind::NoVararg));
+            return Err(Halt::Syntax(SyntaxKind::NoVararg));
         }
         reader.pass();
         Ok(Expr::Varargs)
     }
 
     /// function body
-    fn function(&self, reader: &mut Reader<'_>) -> Result<Expr, Refusal>
+    fn function(&self, reader: &mut Reader<'_>) -> Result<Expr, Halt>
         requires nests { Nests self.now.context.level (F.pre self.now.nested) (F.post self.now.nested) }
         requires seen { at.Sees kind.Function reader.old }
         ensures { Reads self.now.context class.simple thing.simple result reader.old reader.new }
@@ -181,9 +182,10 @@ impl<F: Fn(Global, &mut Reader<'_>, Context, Wanted) -> Result<Found, Refusal>> 
 }
 
 // nil, false, true, a number or a string.
-fn constant(reader: &mut Reader<'_>, kind: TokenKind) -> Result<Expr, Refusal>
+fn constant(reader: &mut Reader<'_>, kind: TokenKind) -> Result<Expr, Halt>
     requires { at.kind reader.old ≡ Some kind }
-    ensures { (c : Context) → MatchResult result (λ e. Spelled every_rule c (thing.simple e) reader.old reader.new) (λ refusal. begins_other kind ≡ false → IsRefused refusal c class.simple reader.old reader.new) }
+    ensures { (c : Context) → MatchResult result (λ e. Spelled every_rule c (thing.simple e) reader.old reader.new)
+        (λ halt. begins_other kind ≡ false → IsRefused halt c class.simple reader.old reader.new) }
 {
     let text = reader.name().text;
     match kind {

@@ -6,11 +6,11 @@ ghost use Rattle.lua_grammar.specs.Things as thing;
 ghost use Rattle.lua_grammar.specs.Contexts as context;
 ghost use Rattle.lua_grammar.specs.declared.kinds.SyntaxKind.TheVariants as fault;
 ghost use Rattle.lua_parse.specs.Nests.{Finds, Nests};
-ghost use Rattle.lua_parse.specs.Refusals.{Reads};
+ghost use Rattle.lua_parse.specs.Halts.{Reads};
 
+use crate::limits::MAX_LEVEL;
 use crate::reader::Reader;
-use crate::stops::Refusal;
-use crate::trees::exact;
+use crate::stops::Halt;
 use lua_grammar::{Block, Context, Expr, Field, SyntaxKind};
 use sqlite_items::Items;
 use std::alloc::Global;
@@ -49,7 +49,7 @@ pub fn read(
     reader: &mut Reader<'_>,
     context: Context,
     wanted: Wanted,
-) -> Result<Found, Refusal>
+) -> Result<Found, Halt>
     requires { context.level ≤ 60 }
     ensures { Finds wanted context result reader.old reader.new }
 {
@@ -67,70 +67,83 @@ pub fn read(
     }
 }
 
-impl<F: Fn(Global, &mut Reader<'_>, Context, Wanted) -> Result<Found, Refusal>> Grammar<F> {
+impl<F: Fn(Global, &mut Reader<'_>, Context, Wanted) -> Result<Found, Halt>> Grammar<F> {
     /// Refuses the next word where nothing may nest any deeper.
-    pub fn room(&self, reader: &Reader<'_>) -> Result<(), Refusal>
-        ensures { MatchResult result (λ _. self.now.context.level < 60) (λ refusal. (refusal ≡ Refusal.Syntax fault.TooDeep) × (60 ≤ self.now.context.level)) }
+    pub fn room(&self, reader: &Reader<'_>) -> Result<(), Halt>
+        ensures { MatchResult result (λ _. self.now.context.level < 60) (λ halt. (halt ≡ Halt.Syntax fault.TooDeep)
+            × (60 ≤ self.now.context.level)) }
     {
-        if self.context.level >= 60 {
-            return Err(Refusal::Syntax(SyntaxKind::TooDeep));
+        if self.context.level >= MAX_LEVEL {
+            return Err(Halt::Syntax(SyntaxKind::TooDeep));
         }
         Ok(())
     }
 
-    pub fn inner_expression(&self, reader: &mut Reader<'_>) -> Result<Expr, Refusal>
+    // What is wanted in this context, which is a level deeper.
+    fn nest(&self, reader: &mut Reader<'_>, context: Context, wanted: Wanted) -> Result<Found, Halt>
         requires nests { Nests self.now.context.level (F.pre self.now.nested) (F.post self.now.nested) }
         requires room { self.now.context.level < 60 }
-        ensures { Reads (context.inner self.now.context) class.expression thing.expression result reader.old reader.new }
+        requires level { context.level ≡ self.now.context.level + 1 }
+        ensures { Finds wanted context result reader.old reader.new }
     {
-        match (self.nested)(self.alloc, reader, self.context.inner(), Wanted::Expression)? {
+        (self.nested)(self.alloc, reader, context, wanted)
+    }
+
+    pub fn inner_expression(&self, reader: &mut Reader<'_>) -> Result<Expr, Halt>
+        requires nests { Nests self.now.context.level (F.pre self.now.nested) (F.post self.now.nested) }
+        requires room { self.now.context.level < 60 }
+        ensures { Reads (context.inner self.now.context) class.expression thing.expression result reader.old
+            reader.new }
+    {
+        match self.nest(reader, self.context.inner(), Wanted::Expression)? {
             Found::Expression(expression) => Ok(expression),
             _ => unreachable!(),
         }
     }
 
-    pub fn inner_list(&self, reader: &mut Reader<'_>) -> Result<Items<Expr>, Refusal>
+    pub fn inner_list(&self, reader: &mut Reader<'_>) -> Result<Items<Expr>, Halt>
         requires nests { Nests self.now.context.level (F.pre self.now.nested) (F.post self.now.nested) }
         requires room { self.now.context.level < 60 }
         ensures { Reads (context.inner self.now.context) class.list thing.list result reader.old reader.new }
     {
-        match (self.nested)(self.alloc, reader, self.context.inner(), Wanted::List)? {
+        match self.nest(reader, self.context.inner(), Wanted::List)? {
             Found::List(list) => Ok(list),
             _ => unreachable!(),
         }
     }
 
-    pub fn inner_fields(&self, reader: &mut Reader<'_>) -> Result<Items<Field>, Refusal>
+    pub fn inner_fields(&self, reader: &mut Reader<'_>) -> Result<Items<Field>, Halt>
         requires nests { Nests self.now.context.level (F.pre self.now.nested) (F.post self.now.nested) }
         requires room { self.now.context.level < 60 }
         ensures { Reads (context.inner self.now.context) class.fields thing.fields result reader.old reader.new }
     {
-        match (self.nested)(self.alloc, reader, self.context.inner(), Wanted::Fields)? {
+        match self.nest(reader, self.context.inner(), Wanted::Fields)? {
             Found::Fields(fields) => Ok(fields),
             _ => unreachable!(),
         }
     }
 
-    pub fn inner_operand(&self, reader: &mut Reader<'_>) -> Result<Expr, Refusal>
+    pub fn inner_operand(&self, reader: &mut Reader<'_>) -> Result<Expr, Halt>
         requires nests { Nests self.now.context.level (F.pre self.now.nested) (F.post self.now.nested) }
         requires room { self.now.context.level < 60 }
-        ensures { Reads (context.inner self.now.context) (class.operand 7) (thing.operand 7) result reader.old reader.new }
+        ensures { Reads (context.inner self.now.context) (class.operand 7) (thing.operand 7) result reader.old
+            reader.new }
     {
-        match (self.nested)(self.alloc, reader, self.context.inner(), Wanted::Operand)? {
+        match self.nest(reader, self.context.inner(), Wanted::Operand)? {
             Found::Expression(expression) => Ok(expression),
             _ => unreachable!(),
         }
     }
 
     /// The block in this context, which is a level deeper.
-    pub fn block_in(&self, reader: &mut Reader<'_>, context: Context) -> Result<Block, Refusal>
+    pub fn block_in(&self, reader: &mut Reader<'_>, context: Context) -> Result<Block, Halt>
         requires nests { Nests self.now.context.level (F.pre self.now.nested) (F.post self.now.nested) }
         requires room { self.now.context.level < 60 }
         requires level { context.level ≡ self.now.context.level + 1 }
         ensures { Reads context class.block thing.block result reader.old reader.new }
     {
-        match (self.nested)(self.alloc, reader, context, Wanted::Block)? {
-            Found::Block(block) => Ok(exact(self.alloc, block)?),
+        match self.nest(reader, context, Wanted::Block)? {
+            Found::Block(block) => Ok(block),
             _ => unreachable!(),
         }
     }

@@ -2,17 +2,23 @@
 
 ghost use Rattle.std.specs.Prelude.{◌≡◌};
 ghost use Rattle.lua_grammar.specs.Positions as at;
-ghost use Rattle.lua_grammar.specs.Rows.{begins_last};
+ghost use Rattle.lua_grammar.specs.Productions.{begins_last};
 ghost use Rattle.lua_grammar.specs.Stuck.{begins_call};
 ghost use Rattle.lua_parse.specs.Nests as spec;
+ghost use Rattle.lua_parse.specs.Sought.{sought_of};
 
+use crate::sought::Sought;
 use lua_lex::TokenKind;
 
-/// How many suffixes a suffix that begins with this word leaves to come: a call leaves `spared`.
-pub fn spared_behind(kind: Option<TokenKind>, spared: usize) -> usize
-    ensures { result ≡ spec.spared_behind kind spared }
+/// How many suffixes a suffix that begins with this word leaves to come.
+pub fn spared_behind(kind: Option<TokenKind>, sought: Sought) -> usize
+    ensures { result ≡ spec.spared_behind kind (sought_of sought) }
 {
-    if begins_call(kind) { spared } else { 0 }
+    if begins_call(kind) {
+        sought.spares()
+    } else {
+        0
+    }
 }
 
 // Whether a suffix that begins with this word is a call.

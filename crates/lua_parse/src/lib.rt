@@ -5,20 +5,20 @@ mod bodies;
 mod chains;
 mod expressions;
 mod grammar;
+mod interner;
 mod kinds;
 mod laws;
+mod limits;
 mod lists;
 mod loops;
-mod numbering;
-mod parsing;
+mod parser;
 mod reader;
+mod sought;
 mod statements;
 mod stops;
 mod tables;
-#[cfg(test)]
-mod tests;
 mod trees;
 
 pub use laws::one_answer;
-pub use parsing::parse;
+pub use parser::parse;
 pub use stops::{ParseKind, ParseStop};

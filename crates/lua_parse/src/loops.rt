@@ -9,22 +9,22 @@ ghost use Rattle.lua_grammar.specs.Classes as class;
 ghost use Rattle.lua_grammar.specs.Things as thing;
 ghost use Rattle.lua_grammar.specs.Grammar.{Spelled};
 ghost use Rattle.lua_parse.specs.Nests.{Nests};
-ghost use Rattle.lua_parse.specs.Refusals.{IsRefused, Reads};
+ghost use Rattle.lua_parse.specs.Halts.{IsRefused, Reads};
 
 use crate::grammar::{Found, Grammar, Wanted};
 use crate::kinds::is_named;
 use crate::lists::names;
 use crate::reader::Reader;
-use crate::stops::Refusal;
+use crate::stops::Halt;
 use crate::trees::exact;
 use lua_grammar::{Block, Branch, Context, Deed, Expr};
 use lua_lex::TokenKind;
 use sqlite_items::Items;
 use std::alloc::Global;
 
-impl<F: Fn(Global, &mut Reader<'_>, Context, Wanted) -> Result<Found, Refusal>> Grammar<F> {
+impl<F: Fn(Global, &mut Reader<'_>, Context, Wanted) -> Result<Found, Halt>> Grammar<F> {
     /// do block end
-    pub fn do_block(&self, reader: &mut Reader<'_>) -> Result<Deed, Refusal>
+    pub fn do_block(&self, reader: &mut Reader<'_>) -> Result<Deed, Halt>
         requires nests { Nests self.now.context.level (F.pre self.now.nested) (F.post self.now.nested) }
         requires seen { at.Sees kind.Do reader.old }
         ensures { Reads self.now.context class.deed thing.deed result reader.old reader.new }
@@ -37,7 +37,7 @@ impl<F: Fn(Global, &mut Reader<'_>, Context, Wanted) -> Result<Found, Refusal>> 
     }
 
     /// while exp do block end
-    pub fn while_loop(&self, reader: &mut Reader<'_>) -> Result<Deed, Refusal>
+    pub fn while_loop(&self, reader: &mut Reader<'_>) -> Result<Deed, Halt>
         requires nests { Nests self.now.context.level (F.pre self.now.nested) (F.post self.now.nested) }
         requires seen { at.Sees kind.While reader.old }
         ensures { Reads self.now.context class.deed thing.deed result reader.old reader.new }
@@ -49,7 +49,7 @@ impl<F: Fn(Global, &mut Reader<'_>, Context, Wanted) -> Result<Found, Refusal>> 
     }
 
     /// repeat block until exp
-    pub fn repeat_loop(&self, reader: &mut Reader<'_>) -> Result<Deed, Refusal>
+    pub fn repeat_loop(&self, reader: &mut Reader<'_>) -> Result<Deed, Halt>
         requires nests { Nests self.now.context.level (F.pre self.now.nested) (F.post self.now.nested) }
         requires seen { at.Sees kind.Repeat reader.old }
         ensures { Reads self.now.context class.deed thing.deed result reader.old reader.new }
@@ -63,7 +63,7 @@ impl<F: Fn(Global, &mut Reader<'_>, Context, Wanted) -> Result<Found, Refusal>> 
     }
 
     /// if branch {elseif branch} [else block] end
-    pub fn if_statement(&self, reader: &mut Reader<'_>) -> Result<Deed, Refusal>
+    pub fn if_statement(&self, reader: &mut Reader<'_>) -> Result<Deed, Halt>
         requires nests { Nests self.now.context.level (F.pre self.now.nested) (F.post self.now.nested) }
         requires seen { at.Sees kind.If reader.old }
         ensures { Reads self.now.context class.deed thing.deed result reader.old reader.new }
@@ -74,26 +74,27 @@ impl<F: Fn(Global, &mut Reader<'_>, Context, Wanted) -> Result<Found, Refusal>> 
         let branches = self.branches(reader, first)?;
         let otherwise = self.otherwise(reader)?;
         reader.take(TokenKind::End)?;
-        let branches = exact(self.alloc, branches)?;
         Ok(Deed::If(branches, otherwise))
     }
 
     // The first branch, and those of `elseif` behind it.
-    fn branches(&self, reader: &mut Reader<'_>, first: Branch) -> Result<Items<Branch>, Refusal>
+    fn branches(&self, reader: &mut Reader<'_>, first: Branch) -> Result<Items<Branch>, Halt>
         requires nests { Nests self.now.context.level (F.pre self.now.nested) (F.post self.now.nested) }
         requires room { self.now.context.level < 60 }
-        ensures { MatchResult result (λ all. (more : List Branch) × (all ≡ first ∷ more) × Spelled every_rule self.now.context (thing.branches more) reader.old reader.new) (λ refusal. IsRefused refusal self.now.context class.branches reader.old reader.new) }
+        ensures { MatchResult result (λ all. (more : List Branch) × (all ≡ first ∷ more)
+            × Spelled every_rule self.now.context (thing.branches more) reader.old reader.new)
+            (λ halt. IsRefused halt self.now.context class.branches reader.old reader.new) }
     {
         let mut branches = Items::new(self.alloc);
         branches.push(first)?;
         'more: while reader.eat(TokenKind::ElseIf) {
             branches.push(self.branch(reader)?)?;
         }
-        Ok(branches)
+        Ok(exact(self.alloc, branches)?)
     }
 
     /// exp then block
-    fn branch(&self, reader: &mut Reader<'_>) -> Result<Branch, Refusal>
+    fn branch(&self, reader: &mut Reader<'_>) -> Result<Branch, Halt>
         requires nests { Nests self.now.context.level (F.pre self.now.nested) (F.post self.now.nested) }
         requires room { self.now.context.level < 60 }
         ensures { Reads self.now.context class.branch thing.branch result reader.old reader.new }
@@ -105,7 +106,7 @@ impl<F: Fn(Global, &mut Reader<'_>, Context, Wanted) -> Result<Found, Refusal>> 
     }
 
     /// [else block]
-    fn otherwise(&self, reader: &mut Reader<'_>) -> Result<Block, Refusal>
+    fn otherwise(&self, reader: &mut Reader<'_>) -> Result<Block, Halt>
         requires nests { Nests self.now.context.level (F.pre self.now.nested) (F.post self.now.nested) }
         requires room { self.now.context.level < 60 }
         ensures { Reads self.now.context class.otherwise thing.otherwise result reader.old reader.new }
@@ -117,7 +118,7 @@ impl<F: Fn(Global, &mut Reader<'_>, Context, Wanted) -> Result<Found, Refusal>> 
         Ok(block)
     }
 
-    pub fn for_loop(&self, reader: &mut Reader<'_>) -> Result<Deed, Refusal>
+    pub fn for_loop(&self, reader: &mut Reader<'_>) -> Result<Deed, Halt>
         requires nests { Nests self.now.context.level (F.pre self.now.nested) (F.post self.now.nested) }
         requires seen { at.Sees kind.For reader.old }
         ensures { Reads self.now.context class.deed thing.deed result reader.old reader.new }
@@ -129,7 +130,7 @@ impl<F: Fn(Global, &mut Reader<'_>, Context, Wanted) -> Result<Found, Refusal>> 
     }
 
     /// A `for` without its first word.
-    fn for_range(&self, reader: &mut Reader<'_>) -> Result<Deed, Refusal>
+    fn for_range(&self, reader: &mut Reader<'_>) -> Result<Deed, Halt>
         requires nests { Nests self.now.context.level (F.pre self.now.nested) (F.post self.now.nested) }
         requires room { self.now.context.level < 60 }
         ensures { Reads self.now.context class.for_range thing.for_range result reader.old reader.new }
@@ -142,7 +143,7 @@ impl<F: Fn(Global, &mut Reader<'_>, Context, Wanted) -> Result<Found, Refusal>> 
     }
 
     /// Name = exp , exp [, exp] do block end
-    fn numeric_for(&self, reader: &mut Reader<'_>) -> Result<Deed, Refusal>
+    fn numeric_for(&self, reader: &mut Reader<'_>) -> Result<Deed, Halt>
         requires nests { Nests self.now.context.level (F.pre self.now.nested) (F.post self.now.nested) }
         requires room { self.now.context.level < 60 }
         requires named { at.names_field reader.old ≡ true }
@@ -159,7 +160,7 @@ impl<F: Fn(Global, &mut Reader<'_>, Context, Wanted) -> Result<Found, Refusal>> 
     }
 
     /// [, exp]
-    fn step(&self, reader: &mut Reader<'_>) -> Result<Option<Expr>, Refusal>
+    fn step(&self, reader: &mut Reader<'_>) -> Result<Option<Expr>, Halt>
         requires nests { Nests self.now.context.level (F.pre self.now.nested) (F.post self.now.nested) }
         ensures { Reads self.now.context class.step thing.step result reader.old reader.new }
     {
@@ -170,7 +171,7 @@ impl<F: Fn(Global, &mut Reader<'_>, Context, Wanted) -> Result<Found, Refusal>> 
     }
 
     /// names in exps do block end
-    fn generic_for(&self, reader: &mut Reader<'_>) -> Result<Deed, Refusal>
+    fn generic_for(&self, reader: &mut Reader<'_>) -> Result<Deed, Halt>
         requires nests { Nests self.now.context.level (F.pre self.now.nested) (F.post self.now.nested) }
         requires room { self.now.context.level < 60 }
         requires unnamed { at.names_field reader.old ≡ false }
@@ -184,7 +185,7 @@ impl<F: Fn(Global, &mut Reader<'_>, Context, Wanted) -> Result<Found, Refusal>> 
     }
 
     /// do block end, of a loop
-    fn loop_block(&self, reader: &mut Reader<'_>) -> Result<Block, Refusal>
+    fn loop_block(&self, reader: &mut Reader<'_>) -> Result<Block, Halt>
         requires nests { Nests self.now.context.level (F.pre self.now.nested) (F.post self.now.nested) }
         requires room { self.now.context.level < 60 }
         ensures { Reads self.now.context class.loop_block thing.loop_block result reader.old reader.new }

@@ -1,21 +1,20 @@
 //! A cursor over the words of a text, with the counts of the expression at hand and the bodies of the functions so far.
 
-ghost use Rattle.std.specs.Prelude.{◌≡◌, ◌<◌, ◌^◌, ◌≤◌, ◌+◌, ◌↔◌, [], length, suc, true, false, IsTrue, Err, IfOk, IfErr, OnOk, MatchResult};
+ghost use Rattle.std.specs.Prelude.{◌≡◌, ◌<◌, ◌^◌, ◌≤◌, ◌+◌, ◌↔◌, [], length, suc, true, false, IsTrue, Err, IfOk};
+ghost use Rattle.std.specs.Prelude.{IfErr, OnOk, MatchResult};
 ghost use Rattle.lua_lex.specs.declared.kinds.TokenKind.TheVariants as mark;
 ghost use Rattle.lua_grammar.specs.Positions as at;
 ghost use Rattle.lua_grammar.specs.Trees.{start};
 ghost use Rattle.lua_grammar.specs.declared.kinds.SyntaxKind.TheVariants as fault;
 ghost use Rattle.lua_parse.specs.Steps as step;
 
-use crate::stops::Refusal;
+use crate::limits::{MAX_OPERATORS, MAX_SUFFIXES};
+use crate::stops::Halt;
 use lua_grammar::{Binary, Body, Name, SyntaxKind, Unary, Word, binary_operator, unary_operator};
 use lua_lex::TokenKind;
 use sqlite_items::Items;
 use std::alloc::Global;
 use std::marker::Model;
-
-// How many binary operators, and how many suffixes, an expression has at most.
-const MOST: usize = 1_000;
 
 #[derive(Drop)]
 pub struct Reader<'a> {
@@ -130,10 +129,10 @@ impl<'a> Reader<'a> {
         }
     }
 
-    pub fn unexpected<T>(&self) -> Result<T, Refusal>
-        ensures { result ≡ Err (Refusal.Syntax fault.Unexpected) }
+    pub fn unexpected<T>(&self) -> Result<T, Halt>
+        ensures { result ≡ Err (Halt.Syntax fault.Unexpected) }
     {
-        Err(Refusal::Syntax(SyntaxKind::Unexpected))
+        Err(Halt::Syntax(SyntaxKind::Unexpected))
     }
 
     /// Whether the next word is of this kind.
@@ -155,9 +154,10 @@ impl<'a> Reader<'a> {
     }
 
     /// Goes behind the next word, which has to be of this kind.
-    pub fn take(&mut self, kind: TokenKind) -> Result<(), Refusal>
+    pub fn take(&mut self, kind: TokenKind) -> Result<(), Halt>
         requires { step.IsMark kind }
-        ensures { MatchResult result (λ _. at.Takes kind self.old self.new) (λ refusal. step.Lacks kind refusal self.old self.new) }
+        ensures { MatchResult result (λ _. at.Takes kind self.old self.new)
+            (λ halt. step.Lacks kind halt self.old self.new) }
     {
         if !self.sees(kind) {
             return self.unexpected();
@@ -188,8 +188,9 @@ impl<'a> Reader<'a> {
         }
     }
 
-    pub fn take_name(&mut self) -> Result<Name, Refusal>
-        ensures { MatchResult result (λ name. at.TakesName name self.old self.new) (λ refusal. step.Lacks mark.Name refusal self.old self.new) }
+    pub fn take_name(&mut self) -> Result<Name, Halt>
+        ensures { MatchResult result (λ name. at.TakesName name self.old self.new)
+            (λ halt. step.Lacks mark.Name halt self.old self.new) }
     {
         let name = self.name();
         self.take(TokenKind::Name)?;
@@ -219,13 +220,13 @@ impl<'a> Reader<'a> {
     }
 
     /// Counts the binary operator that comes next, and goes behind it.
-    pub fn pass_operator(&mut self) -> Result<(), Refusal>
+    pub fn pass_operator(&mut self) -> Result<(), Halt>
         ensures short { OnOk result (self.old.operators < 1000) }
         ensures passed { OnOk result (self.new ≡ at.next (record self.old { operators = suc self.old.operators })) }
-        ensures long { IfErr result (λ refusal. step.IsTooLong refusal 0 self.old.operators self.old self.new) }
+        ensures long { IfErr result (λ halt. step.IsTooLong halt 0 self.old.operators self.old self.new) }
     {
-        if self.operators >= MOST {
-            return Err(Refusal::Syntax(SyntaxKind::TooLong));
+        if self.operators >= MAX_OPERATORS {
+            return Err(Halt::Syntax(SyntaxKind::TooLong));
         }
         self.operators += 1;
         self.pass();
@@ -233,35 +234,39 @@ impl<'a> Reader<'a> {
     }
 
     /// Counts the suffix that begins here; `spared` suffixes are left to come.
-    pub fn count_suffix(&mut self, spared: usize) -> Result<(), Refusal>
+    pub fn count_suffix(&mut self, spared: usize) -> Result<(), Halt>
         requires { spared ≤ 1 }
         ensures short { OnOk result (self.old.suffixes < 1000) }
         ensures counted { OnOk result (at.CountsSuffix self.old self.new) }
         ensures spared { OnOk result (self.old.suffixes + spared < 1000) }
-        ensures long { IfErr result (λ refusal. step.IsTooLong refusal spared self.old.suffixes self.old self.new) }
+        ensures long { IfErr result (λ halt. step.IsTooLong halt spared self.old.suffixes self.old self.new) }
     {
-        if self.suffixes >= MOST || self.suffixes + spared >= MOST {
-            return Err(Refusal::Syntax(SyntaxKind::TooLong));
+        if self.suffixes >= MAX_SUFFIXES || self.suffixes + spared >= MAX_SUFFIXES {
+            return Err(Halt::Syntax(SyntaxKind::TooLong));
         }
         self.suffixes += 1;
         Ok(())
     }
 
     /// Refuses a next word that is not on the line of the word before it.
-    pub fn near(&self) -> Result<(), Refusal>
-        ensures { MatchResult result (λ _. at.IsNear self.now) (λ refusal. (refusal ≡ Refusal.Syntax fault.Ambiguous) × (at.IsNear self.now → ⊥)) }
+    pub fn near(&self) -> Result<(), Halt>
+        ensures { MatchResult result (λ _. at.IsNear self.now) (λ halt. (halt ≡ Halt.Syntax fault.Ambiguous)
+            × (at.IsNear self.now → ⊥)) }
     {
         if self.name().line != self.line {
-            return Err(Refusal::Syntax(SyntaxKind::Ambiguous));
+            return Err(Halt::Syntax(SyntaxKind::Ambiguous));
         }
         Ok(())
     }
 
-    /// Keeps a place for the body of a function, whose parameters' `(` comes next, and goes behind that. Gives the number of
+    /// Keeps a place for the body of a function, whose parameters' `(` comes next, and goes behind that. Gives the
+    /// number of
     /// the place.
-    pub fn begin_body(&mut self, alloc: Global) -> Result<u32, Refusal>
-        ensures { MatchResult result (λ number. step.OpensBody number self.old self.new) (λ refusal. step.OpensNone refusal self.old self.new) }
+    pub fn begin_body(&mut self, alloc: Global) -> Result<u32, Halt>
+        ensures { MatchResult result (λ number. step.OpensBody number self.old self.new)
+            (λ halt. step.OpensNone halt self.old self.new) }
     {
+        // Read for its length: as many bodies can begin yet, so that their number fits.
         let _words = self.words;
         self.take(TokenKind::LeftParen)?;
         let number = self.bodies.len() as u32;

@@ -10,16 +10,17 @@ ghost use Rattle.lua_grammar.specs.Classes as class;
 ghost use Rattle.lua_grammar.specs.Things as thing;
 ghost use Rattle.lua_grammar.specs.Grammar.{Spelled};
 ghost use Rattle.lua_parse.specs.Fronts.{IsFront};
-ghost use Rattle.lua_grammar.specs.Classes.{Sought};
-ghost use Rattle.lua_grammar.specs.Rows.{begins_chain, begins_last};
+ghost use Rattle.lua_grammar.specs.Productions.{begins_chain, begins_last};
 ghost use Rattle.lua_parse.specs.Nests.{EndsBlock, IsMethod, Nests};
-ghost use Rattle.lua_parse.specs.Refusals.{IsMethodRefused, IsRefused, Reads, spares};
+ghost use Rattle.lua_parse.specs.Halts.{IsMethodRefused, IsRefused, Reads};
+ghost use Rattle.lua_parse.specs.Sought.{sought_of};
 
 use crate::grammar::{Found, Grammar, Wanted};
 use crate::kinds::begins_last;
 use crate::lists::names;
 use crate::reader::Reader;
-use crate::stops::Refusal;
+use crate::sought::Sought;
+use crate::stops::Halt;
 use crate::trees::{Front, exact, made_front, returned};
 use lua_grammar::{
     Block, Context, Deed, Expr, Name, Stat, SyntaxKind, Target, ends_block, ends_return,
@@ -28,9 +29,9 @@ use lua_lex::TokenKind;
 use sqlite_items::Items;
 use std::alloc::Global;
 
-impl<F: Fn(Global, &mut Reader<'_>, Context, Wanted) -> Result<Found, Refusal>> Grammar<F> {
+impl<F: Fn(Global, &mut Reader<'_>, Context, Wanted) -> Result<Found, Halt>> Grammar<F> {
     /// The statements up to the end of the block.
-    pub fn block(&self, reader: &mut Reader<'_>) -> Result<Block, Refusal>
+    pub fn block(&self, reader: &mut Reader<'_>) -> Result<Block, Halt>
         requires nests { Nests self.now.context.level (F.pre self.now.nested) (F.post self.now.nested) }
         ensures { Reads self.now.context class.block thing.block result reader.old reader.new }
     {
@@ -38,15 +39,15 @@ impl<F: Fn(Global, &mut Reader<'_>, Context, Wanted) -> Result<Found, Refusal>> 
         'more: while !ends_block(reader.peek()) {
             if begins_last(reader.peek()) {
                 block.push(self.last(reader)?)?;
-                return Ok(block);
+                return Ok(exact(self.alloc, block)?);
             }
             block.push(self.statement(reader)?)?;
         }
-        Ok(block)
+        Ok(exact(self.alloc, block)?)
     }
 
     /// stat [;]
-    fn statement(&self, reader: &mut Reader<'_>) -> Result<Stat, Refusal>
+    fn statement(&self, reader: &mut Reader<'_>) -> Result<Stat, Halt>
         requires nests { Nests self.now.context.level (F.pre self.now.nested) (F.post self.now.nested) }
         ensures { Reads self.now.context class.statement thing.statement result reader.old reader.new }
     {
@@ -57,10 +58,11 @@ impl<F: Fn(Global, &mut Reader<'_>, Context, Wanted) -> Result<Found, Refusal>> 
     }
 
     /// last [;], with the end of the block behind it
-    fn last(&self, reader: &mut Reader<'_>) -> Result<Stat, Refusal>
+    fn last(&self, reader: &mut Reader<'_>) -> Result<Stat, Halt>
         requires nests { Nests self.now.context.level (F.pre self.now.nested) (F.post self.now.nested) }
         requires begins { begins_last (at.kind reader.old) ≡ true }
-        ensures { MatchResult result (λ last. EndsBlock self.now.context last reader.old reader.new) (λ refusal. IsRefused refusal self.now.context class.block reader.old reader.new) }
+        ensures { MatchResult result (λ last. EndsBlock self.now.context last reader.old reader.new)
+            (λ halt. IsRefused halt self.now.context class.block reader.old reader.new) }
     {
         let line = reader.name().line;
         let deed = self.last_deed(reader)?;
@@ -71,7 +73,7 @@ impl<F: Fn(Global, &mut Reader<'_>, Context, Wanted) -> Result<Found, Refusal>> 
         Ok(Stat { line, deed })
     }
 
-    fn last_deed(&self, reader: &mut Reader<'_>) -> Result<Deed, Refusal>
+    fn last_deed(&self, reader: &mut Reader<'_>) -> Result<Deed, Halt>
         requires nests { Nests self.now.context.level (F.pre self.now.nested) (F.post self.now.nested) }
         requires begins { begins_last (at.kind reader.old) ≡ true }
         ensures { Reads self.now.context class.last_deed thing.last_deed result reader.old reader.new }
@@ -87,18 +89,18 @@ impl<F: Fn(Global, &mut Reader<'_>, Context, Wanted) -> Result<Found, Refusal>> 
         Ok(returned(self.alloc, values)?)
     }
 
-    fn break_statement(&self, reader: &mut Reader<'_>) -> Result<Deed, Refusal>
+    fn break_statement(&self, reader: &mut Reader<'_>) -> Result<Deed, Halt>
         requires seen { at.Sees kind.Break reader.old }
         ensures { Reads self.now.context class.last_deed thing.last_deed result reader.old reader.new }
     {
         if !self.context.in_loop {
-            return Err(Refusal::Syntax(SyntaxKind::NoLoop));
+            return Err(Halt::Syntax(SyntaxKind::NoLoop));
         }
         reader.take(TokenKind::Break)?;
         Ok(Deed::Break)
     }
 
-    fn deed(&self, reader: &mut Reader<'_>) -> Result<Deed, Refusal>
+    fn deed(&self, reader: &mut Reader<'_>) -> Result<Deed, Halt>
         requires nests { Nests self.now.context.level (F.pre self.now.nested) (F.post self.now.nested) }
         ensures { Reads self.now.context class.deed thing.deed result reader.old reader.new }
     {
@@ -116,7 +118,7 @@ impl<F: Fn(Global, &mut Reader<'_>, Context, Wanted) -> Result<Found, Refusal>> 
     }
 
     /// function Name {. Name} [: Name] body
-    fn function_statement(&self, reader: &mut Reader<'_>) -> Result<Deed, Refusal>
+    fn function_statement(&self, reader: &mut Reader<'_>) -> Result<Deed, Halt>
         requires nests { Nests self.now.context.level (F.pre self.now.nested) (F.post self.now.nested) }
         requires seen { at.Sees kind.Function reader.old }
         ensures { Reads self.now.context class.deed thing.deed result reader.old reader.new }
@@ -141,17 +143,19 @@ impl<F: Fn(Global, &mut Reader<'_>, Context, Wanted) -> Result<Found, Refusal>> 
         line: u32,
         name: Name,
         mut path: Items<Name>,
-    ) -> Result<Deed, Refusal>
+    ) -> Result<Deed, Halt>
         requires nests { Nests self.now.context.level (F.pre self.now.nested) (F.post self.now.nested) }
         requires room { self.now.context.level < 60 }
-        ensures { MatchResult result (λ deed. IsMethod self.now.context line name path deed reader.old reader.new) (λ refusal. IsMethodRefused refusal self.now.context line reader.old reader.new) }
+        ensures { MatchResult result (λ deed. IsMethod self.now.context line name path deed reader.old reader.new)
+            (λ halt. IsMethodRefused halt self.now.context line reader.old reader.new) }
     {
         path.push(reader.take_name()?)?;
+        let path = exact(self.alloc, path)?;
         let number = self.function_body(reader, line, true)?;
         Ok(Deed::Function(name, path, number))
     }
 
-    fn local(&self, reader: &mut Reader<'_>) -> Result<Deed, Refusal>
+    fn local(&self, reader: &mut Reader<'_>) -> Result<Deed, Halt>
         requires nests { Nests self.now.context.level (F.pre self.now.nested) (F.post self.now.nested) }
         requires seen { at.Sees kind.Local reader.old }
         ensures { Reads self.now.context class.deed thing.deed result reader.old reader.new }
@@ -166,10 +170,11 @@ impl<F: Fn(Global, &mut Reader<'_>, Context, Wanted) -> Result<Found, Refusal>> 
     }
 
     /// function Name body, behind `local`
-    fn local_function(&self, reader: &mut Reader<'_>) -> Result<Deed, Refusal>
+    fn local_function(&self, reader: &mut Reader<'_>) -> Result<Deed, Halt>
         requires nests { Nests self.now.context.level (F.pre self.now.nested) (F.post self.now.nested) }
         requires seen { at.Sees kind.Function reader.old }
-        ensures { (start : Position) → at.Takes kind.Local start reader.old → Reads self.now.context class.deed thing.deed result start reader.new }
+        ensures { (start : Position) → at.Takes kind.Local start reader.old
+            → Reads self.now.context class.deed thing.deed result start reader.new }
     {
         self.room(reader)?;
         let line = reader.name().line;
@@ -180,7 +185,7 @@ impl<F: Fn(Global, &mut Reader<'_>, Context, Wanted) -> Result<Found, Refusal>> 
     }
 
     /// [= exps]
-    fn values(&self, reader: &mut Reader<'_>) -> Result<Items<Expr>, Refusal>
+    fn values(&self, reader: &mut Reader<'_>) -> Result<Items<Expr>, Halt>
         requires nests { Nests self.now.context.level (F.pre self.now.nested) (F.post self.now.nested) }
         ensures { Reads self.now.context class.values thing.values result reader.old reader.new }
     {
@@ -192,12 +197,12 @@ impl<F: Fn(Global, &mut Reader<'_>, Context, Wanted) -> Result<Found, Refusal>> 
     }
 
     /// A call, or an assignment.
-    fn chain_statement(&self, reader: &mut Reader<'_>) -> Result<Deed, Refusal>
+    fn chain_statement(&self, reader: &mut Reader<'_>) -> Result<Deed, Halt>
         requires nests { Nests self.now.context.level (F.pre self.now.nested) (F.post self.now.nested) }
         requires begins { begins_chain (at.kind reader.old) ≡ true }
         ensures { Reads self.now.context class.deed thing.deed result reader.old reader.new }
     {
-        match self.front(reader, 0)? {
+        match self.front(reader, Sought::Front)? {
             Front::Call(function, how) => Ok(Deed::Call(function, how)),
             Front::Target(target) => {
                 let deed = self.assignment(reader, target)?;
@@ -208,21 +213,22 @@ impl<F: Fn(Global, &mut Reader<'_>, Context, Wanted) -> Result<Found, Refusal>> 
     }
 
     // A name or a parenthesis with its suffixes, as an expression of its own.
-    fn front(&self, reader: &mut Reader<'_>, spared: usize) -> Result<Front, Refusal>
+    fn front(&self, reader: &mut Reader<'_>, sought: Sought) -> Result<Front, Halt>
         requires nests { Nests self.now.context.level (F.pre self.now.nested) (F.post self.now.nested) }
-        requires spared { spared ≤ 1 }
-        ensures { MatchResult result (λ front. IsFront self.now.context spared front reader.old reader.new) (λ refusal. (sought : Sought) → spares sought ≡ spared → IsRefused refusal self.now.context (class.own_chain sought) reader.old reader.new) }
+        ensures { MatchResult result (λ front. IsFront self.now.context (sought_of sought) front reader.old reader.new)
+            (λ halt. IsRefused halt self.now.context (class.own_chain (sought_of sought)) reader.old reader.new) }
     {
         let counts = reader.begin_expression();
-        let (head, suffixes) = self.chain(reader, spared)?;
+        let (head, suffixes) = self.chain(reader, sought)?;
         reader.resume_expression(counts);
         Ok(made_front(self.alloc, head, suffixes)?)
     }
 
     /// vars = exps, behind the first of them
-    fn assignment(&self, reader: &mut Reader<'_>, first: Target) -> Result<Deed, Refusal>
+    fn assignment(&self, reader: &mut Reader<'_>, first: Target) -> Result<Deed, Halt>
         requires nests { Nests self.now.context.level (F.pre self.now.nested) (F.post self.now.nested) }
-        ensures { (start : Position) → Spelled every_rule self.now.context (thing.target first) start reader.old → Reads self.now.context class.deed thing.deed result start reader.new }
+        ensures { (start : Position) → Spelled every_rule self.now.context (thing.target first) start reader.old
+            → Reads self.now.context class.deed thing.deed result start reader.new }
     {
         let mut targets = Items::new(self.alloc);
         targets.push(first)?;
@@ -236,11 +242,11 @@ impl<F: Fn(Global, &mut Reader<'_>, Context, Wanted) -> Result<Found, Refusal>> 
     }
 
     // A call among its suffixes has another suffix behind it.
-    fn target(&self, reader: &mut Reader<'_>) -> Result<Target, Refusal>
+    fn target(&self, reader: &mut Reader<'_>) -> Result<Target, Halt>
         requires nests { Nests self.now.context.level (F.pre self.now.nested) (F.post self.now.nested) }
         ensures { Reads self.now.context class.target thing.target result reader.old reader.new }
     {
-        match self.front(reader, 1)? {
+        match self.front(reader, Sought::Target)? {
             Front::Target(target) => Ok(target),
             _ => reader.unexpected(),
         }
@@ -248,12 +254,12 @@ impl<F: Fn(Global, &mut Reader<'_>, Context, Wanted) -> Result<Found, Refusal>> 
 }
 
 // {. Name}
-fn path(alloc: Global, reader: &mut Reader<'_>) -> Result<Items<Name>, Refusal>
+fn path(alloc: Global, reader: &mut Reader<'_>) -> Result<Items<Name>, Halt>
     ensures { (c : Context) → Reads c class.path thing.path result reader.old reader.new }
 {
     let mut path = Items::new(alloc);
     'more: while reader.eat(TokenKind::Dot) {
         path.push(reader.take_name()?)?;
     }
-    Ok(path)
+    Ok(exact(alloc, path)?)
 }

@@ -52,29 +52,29 @@ impl From<LexStop> for ParseStop {
 
 /// Why a production was not read: the fault of the next word, or of the end of the text, or want of memory.
 #[derive(Clone, Copy)]
-pub enum Refusal {
+pub enum Halt {
     Syntax(SyntaxKind),
     NoMemory,
 }
 
-impl From<NoMemory> for Refusal {
+impl From<NoMemory> for Halt {
     ghost use Rattle.std.specs.Prelude.{◌≡◌};
-    ghost use Rattle.lua_parse.specs.declared.stops.Refusal.{Refusal};
+    ghost use Rattle.lua_parse.specs.declared.stops.Halt.{Halt};
 
-    ghost from_gives = { λ _ refusal. refusal ≡ Refusal.NoMemory };
+    ghost from_gives = { λ _ halt. halt ≡ Halt.NoMemory };
 
-    fn from(_error: NoMemory) -> Refusal {
-        Refusal::NoMemory
+    fn from(_error: NoMemory) -> Halt {
+        Halt::NoMemory
     }
 }
 
-impl From<AllocError> for Refusal {
+impl From<AllocError> for Halt {
     ghost use Rattle.std.specs.Prelude.{◌≡◌};
-    ghost use Rattle.lua_parse.specs.declared.stops.Refusal.{Refusal};
+    ghost use Rattle.lua_parse.specs.declared.stops.Halt.{Halt};
 
-    ghost from_gives = { λ _ refusal. refusal ≡ Refusal.NoMemory };
+    ghost from_gives = { λ _ halt. halt ≡ Halt.NoMemory };
 
-    fn from(_error: AllocError) -> Refusal {
-        Refusal::NoMemory
+    fn from(_error: AllocError) -> Halt {
+        Halt::NoMemory
     }
 }

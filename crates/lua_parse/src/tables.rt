@@ -6,21 +6,21 @@ ghost use Rattle.lua_grammar.specs.Positions as at;
 ghost use Rattle.lua_grammar.specs.Classes as class;
 ghost use Rattle.lua_grammar.specs.Things as thing;
 ghost use Rattle.lua_parse.specs.Nests.{Nests};
-ghost use Rattle.lua_parse.specs.Refusals.{Reads};
+ghost use Rattle.lua_parse.specs.Halts.{Reads};
 
 use crate::grammar::{Found, Grammar, Wanted};
 use crate::kinds::{is_named, is_separator};
 use crate::reader::Reader;
-use crate::stops::Refusal;
+use crate::stops::Halt;
 use crate::trees::exact;
 use lua_grammar::{Context, Field};
 use lua_lex::TokenKind;
 use sqlite_items::Items;
 use std::alloc::Global;
 
-impl<F: Fn(Global, &mut Reader<'_>, Context, Wanted) -> Result<Found, Refusal>> Grammar<F> {
+impl<F: Fn(Global, &mut Reader<'_>, Context, Wanted) -> Result<Found, Halt>> Grammar<F> {
     /// { [field {sep field} [sep]] }
-    pub fn constructor(&self, reader: &mut Reader<'_>) -> Result<Items<Field>, Refusal>
+    pub fn constructor(&self, reader: &mut Reader<'_>) -> Result<Items<Field>, Halt>
         requires nests { Nests self.now.context.level (F.pre self.now.nested) (F.post self.now.nested) }
         requires seen { at.Sees kind.LeftBrace reader.old }
         ensures { Reads self.now.context class.constructor thing.constructor result reader.old reader.new }
@@ -29,11 +29,11 @@ impl<F: Fn(Global, &mut Reader<'_>, Context, Wanted) -> Result<Found, Refusal>> 
         reader.take(TokenKind::LeftBrace)?;
         let fields = self.inner_fields(reader)?;
         reader.take(TokenKind::RightBrace)?;
-        Ok(exact(self.alloc, fields)?)
+        Ok(fields)
     }
 
     /// The fields of a constructor, up to its `}`.
-    pub fn fields(&self, reader: &mut Reader<'_>) -> Result<Items<Field>, Refusal>
+    pub fn fields(&self, reader: &mut Reader<'_>) -> Result<Items<Field>, Halt>
         requires nests { Nests self.now.context.level (F.pre self.now.nested) (F.post self.now.nested) }
         ensures { Reads self.now.context class.fields thing.fields result reader.old reader.new }
     {
@@ -41,14 +41,14 @@ impl<F: Fn(Global, &mut Reader<'_>, Context, Wanted) -> Result<Found, Refusal>> 
         'more: while !reader.sees(TokenKind::RightBrace) {
             fields.push(self.field(reader)?)?;
             if !is_separator(reader.peek()) {
-                return Ok(fields);
+                return Ok(exact(self.alloc, fields)?);
             }
             reader.pass();
         }
-        Ok(fields)
+        Ok(exact(self.alloc, fields)?)
     }
 
-    fn field(&self, reader: &mut Reader<'_>) -> Result<Field, Refusal>
+    fn field(&self, reader: &mut Reader<'_>) -> Result<Field, Halt>
         requires nests { Nests self.now.context.level (F.pre self.now.nested) (F.post self.now.nested) }
         ensures { Reads self.now.context class.field thing.field result reader.old reader.new }
     {
@@ -62,7 +62,7 @@ impl<F: Fn(Global, &mut Reader<'_>, Context, Wanted) -> Result<Found, Refusal>> 
     }
 
     /// [ exp ] = exp
-    fn keyed(&self, reader: &mut Reader<'_>) -> Result<Field, Refusal>
+    fn keyed(&self, reader: &mut Reader<'_>) -> Result<Field, Halt>
         requires nests { Nests self.now.context.level (F.pre self.now.nested) (F.post self.now.nested) }
         requires seen { at.Sees kind.LeftBracket reader.old }
         ensures { Reads self.now.context class.field thing.field result reader.old reader.new }
@@ -75,7 +75,7 @@ impl<F: Fn(Global, &mut Reader<'_>, Context, Wanted) -> Result<Found, Refusal>> 
     }
 
     /// Name = exp
-    fn named(&self, reader: &mut Reader<'_>) -> Result<Field, Refusal>
+    fn named(&self, reader: &mut Reader<'_>) -> Result<Field, Halt>
         requires nests { Nests self.now.context.level (F.pre self.now.nested) (F.post self.now.nested) }
         requires named { at.names_field reader.old ≡ true }
         ensures { Reads self.now.context class.field thing.field result reader.old reader.new }

@@ -48,7 +48,7 @@ pub fn made_front(
 {
     match suffixes.pop() {
         Some(Suffix::Key(key)) => {
-            Ok(Front::Target(Target::Row(suffixed(alloc, head, suffixes)?, key)))
+            Ok(Front::Target(Target::Index(suffixed(alloc, head, suffixes)?, key)))
         }
         Some(Suffix::Call(how)) => Ok(Front::Call(suffixed(alloc, head, suffixes)?, how)),
         None => match head {
@@ -110,6 +110,7 @@ pub fn only(alloc: Global, expression: Expr) -> Result<Items<Expr>, AllocError>
 }
 
 /// The same items in a list of just their size: a tree has many short lists, and a list that grew has room to spare.
+/// Who gathers a list for a tree ends with this.
 pub fn exact<T: Drop>(alloc: Global, items: Items<T>) -> Result<Items<T>, AllocError>
     ensures { IfOk result (λ exact. exact ≡ items) }
 {

@@ -14,8 +14,10 @@ slice_get-push [] x = refl
 slice_get-push (y ∷ xs) x = slice_get-push xs x
 
 pub last-push : {X : Type 0} (xs : List X) (x : X) → last (xs ++ x ∷ []) ≡ Some x
-last-push xs x = let e : length (xs ++ x ∷ []) - 1 ≡ length xs = omega (arith, length_push xs x) in rw e (slice_get-push xs x)
+last-push xs x = let e : length (xs ++ x ∷ []) - 1 ≡ length xs = omega (arith, length_push xs x) in
+    rw e (slice_get-push xs x)
 
 -- the first place that passes, or else the length
-pub unwrap_or-position : {X : Type 0} (p : X → Bool) (xs : List X) → unwrap_or (position p xs) (length xs) ≡ position_or_len p xs
+pub unwrap_or-position : {X : Type 0} (p : X → Bool) (xs : List X) → unwrap_or (position p xs) (length xs)
+    ≡ position_or_len p xs
 unwrap_or-position p xs = grind (arith, common_steps, prefix_len-le-length)

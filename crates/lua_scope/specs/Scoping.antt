@@ -1,6 +1,7 @@
 -- The scopes of a Lua text (Lua 5.1 manual, sections 2.4.1, 2.4.7 and 2.6): which functions and blocks are open, and
 -- which local each name stands for there.
-use Rattle.std.specs.Prelude.{ℕ, ◌+◌, ◌-◌, ◌<◌, Bool, true, false, ◌==◌, nat_lt, ◌&&◌, if◌then◌else◌, List, [], ◌∷◌, ◌++◌, length, take, map, slice_get, Option, Some, None}
+use Rattle.std.specs.Prelude.{ℕ, ◌+◌, ◌-◌, ◌<◌, Bool, true, false, ◌==◌, nat_lt, ◌&&◌, if◌then◌else◌, List, [], ◌∷◌}
+use Rattle.std.specs.Prelude.{◌++◌, length, take, map, slice_get, Option, Some, None}
 use Rattle.std.specs.List.{position_or_len}
 use Rattle.std.specs.Str.{bytes_eq}
 use Rattle.lua_scope.specs.declared.place.Place.{Place}
@@ -30,7 +31,10 @@ main_text = record { enclosing = []; running = no_locals }
 -- a function or a block begins
 abbrev pub entered : Bool → Nesting → Nesting
 entered true s = record { enclosing = s.enclosing ++ s.running ∷ []; running = no_locals }
-entered false s = record { enclosing = s.enclosing; running = record s.running { begins = s.running.begins ++ length s.running.locals ∷ [] } }
+entered false s = record {
+  enclosing = s.enclosing;
+  running = record s.running { begins = s.running.begins ++ length s.running.locals ∷ [] };
+}
 
 abbrev pub IsEntered : Nesting → Type 0
 IsEntered s = 0 < length s.enclosing + length s.running.begins
@@ -49,7 +53,14 @@ function_left s (Some around) = record { enclosing = front s.enclosing; running 
 -- the innermost block ends: the locals that were in scope when it began are left
 abbrev pub block_left : Nesting → Option ℕ → Nesting
 block_left s None = function_left s (last s.enclosing)
-block_left s (Some begin) = record { enclosing = s.enclosing; running = record { locals = take begin s.running.locals; begins = front s.running.begins; captured = s.running.captured } }
+block_left s (Some begin) = record {
+  enclosing = s.enclosing;
+  running = record {
+    locals = take begin s.running.locals;
+    begins = front s.running.begins;
+    captured = s.running.captured;
+  };
+}
 
 -- the innermost block ends, or the running function where no block inside its body is open
 abbrev pub left : Nesting → Nesting
@@ -57,7 +68,10 @@ left s = block_left s (last s.running.begins)
 
 -- a local is declared in the innermost block
 abbrev pub declared : List ℕ → Nesting → Nesting
-declared name s = record { enclosing = s.enclosing; running = record s.running { locals = s.running.locals ++ name ∷ [] } }
+declared name s = record {
+  enclosing = s.enclosing;
+  running = record s.running { locals = s.running.locals ++ name ∷ [] };
+}
 
 -- the first, or else the second
 abbrev pub or_else : {X : Type 0} → Option X → Option X → Option X
@@ -67,7 +81,8 @@ or_else (Some x) other = Some x
 -- the last place that holds the name, the first place being `at`
 abbrev pub last_place : List ℕ → ℕ → List (List ℕ) → Option ℕ
 last_place name at [] = None
-last_place name at (local ∷ locals) = or_else (last_place name (at + 1) locals) (if bytes_eq local name then Some at else None)
+last_place name at (local ∷ locals) = or_else (last_place name (at + 1) locals)
+    (if bytes_eq local name then Some at else None)
 
 abbrev pub declared_at : ℕ → Option ℕ → Option Declaration
 declared_at depth None = None
@@ -76,11 +91,13 @@ declared_at depth (Some number) = Some (record { depth = depth; number = number 
 -- the last declaration of the name in the innermost of these functions that has one, the first of them lying at `depth`
 abbrev pub declaration_in : List ℕ → ℕ → List FunctionScope → Option Declaration
 declaration_in name depth [] = None
-declaration_in name depth (f ∷ inner) = or_else (declaration_in name (depth + 1) inner) (declared_at depth (last_place name 0 f.locals))
+declaration_in name depth (f ∷ inner) = or_else (declaration_in name (depth + 1) inner)
+    (declared_at depth (last_place name 0 f.locals))
 
 -- the innermost declaration of the name that is in scope: the running function's last one, or else one around it
 abbrev pub declaration : List ℕ → Nesting → Option Declaration
-declaration name s = or_else (declared_at (length s.enclosing) (last_place name 0 s.running.locals)) (declaration_in name 0 s.enclosing)
+declaration name s = or_else (declared_at (length s.enclosing) (last_place name 0 s.running.locals))
+    (declaration_in name 0 s.enclosing)
 
 abbrev pub is_same : Declaration → Declaration → Bool
 is_same d e = (d.depth == e.depth) && (d.number == e.number)
@@ -91,7 +108,8 @@ captured_place d f = position_or_len (λ e. is_same e d) f.captured
 
 -- a function at this depth names a local: one of a function around it is captured
 abbrev pub naming : Declaration → ℕ → FunctionScope → FunctionScope
-naming d depth f = if nat_lt d.depth depth && (captured_place d f == length f.captured) then record { locals = f.locals; begins = f.begins; captured = f.captured ++ d ∷ [] } else f
+naming d depth f = if nat_lt d.depth depth && (captured_place d f == length f.captured) then record
+    { locals = f.locals; begins = f.begins; captured = f.captured ++ d ∷ [] } else f
 
 -- each of these functions names a local, the first of them lying at `depth`
 abbrev pub naming_each : Declaration → ℕ → List FunctionScope → List FunctionScope

@@ -1,10 +1,13 @@
--- The rule of visibility (Lua 5.1 manual, section 2.6) said of whole texts: what is read in a block, and which local a name
+-- The rule of visibility (Lua 5.1 manual, section 2.6) said of whole texts: what is read in a block, and which local a
+-- name
 -- stands for.
-use Rattle.std.specs.Prelude.{◌≡◌, ◌≢◌, ℕ, ◌<◌, ◌≤◌, ◌⊎◌, Bool, List, [], ◌∷◌, ◌++◌, Option, Some, slice_get, option_and_then}
+use Rattle.std.specs.Prelude.{◌≡◌, ◌≢◌, ℕ, ◌<◌, ◌≤◌, ◌⊎◌, Bool, List, [], ◌∷◌, ◌++◌, Option, Some, slice_get}
+use Rattle.std.specs.Prelude.{option_and_then}
 use Rattle.lua_scope.specs.declared.place.Declaration.{Declaration}
 use Rattle.lua_scope.specs.Scoping.{Nesting, entered, left, declared, named}
 
--- what is read one behind the other in a block: declarations, names, and whole blocks and functions with what is read in them
+-- what is read one behind the other in a block: declarations, names, and whole blocks and functions with what is read
+-- in them
 pub data Text : Type 0 where
   Nothing : Text
   Declares : List ℕ → Text → Text

@@ -5,8 +5,6 @@ mod function;
 mod laws;
 mod place;
 mod scopes;
-#[cfg(test)]
-mod tests;
 
 pub use laws::{captured_locals_are_found, names_stand_for_the_innermost_local};
 pub use place::Place;

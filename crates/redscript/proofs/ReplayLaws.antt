@@ -1,9 +1,10 @@
 -- A log that is replayed as it is read.
-use Rattle.std.proofs.Common.{◌≡◌, ℕ, suc, zero, ◌+◌, ◌-◌, ◌^◌, ◌<◌, ◌≤◌, min, List, [], ◌∷◌, ◌++◌, Option, Some, None, length, take, fold, codes, refl, sym, ap, subst, inl, inr, ◌⊎◌, ◌∙◌, arith, append_assoc, append-nil, length-append}
-use Rattle.std.proofs.lemmas.List.{take_all}
+use Rattle.std.proofs.Common.{◌≡◌, ℕ, ◌+◌, ◌-◌, ◌^◌, ◌<◌, ◌≤◌, min, List, [], ◌∷◌, ◌++◌, Option, Some, None, length, take, fold, codes, refl, sym, ap, subst, inl, inr, ◌⊎◌, ◌∙◌, arith, append-nil, length-append}
+use Rattle.std.proofs.lemmas.List.{take_all, take_min, take-take, take-append-le}
 use Rattle.std.proofs.lemmas.List.Sums.{fold-append}
 use Rattle.std.proofs.lemmas.Grind.{flat_map-append}
 use Rattle.std.specs.FinMap as finite
+use Rattle.rs_base.proofs.Lists.{take-append}
 use Rattle.rs_outside.specs.Known.{items_then, known_then, NoneLeft}
 use Rattle.rs_outside.specs.declared.status.Status.{Status}
 use Rattle.rs_outside.specs.declared.status.Status.TheVariants.{Done, Usage, BadInput, BadLog, SourceFault, SinkFault, LogFault, WireFault, TurnsSpent, NoMemory, InputTooLong}
@@ -11,7 +12,7 @@ use Rattle.fx_record.specs.Records.{apply, replay}
 use Rattle.fx_log.specs.declared.group.Group.{Group}
 use Rattle.fx_log.specs.declared.stops.LogKind.{LogKind}
 use Rattle.fx_log.specs.Logs.{IsGroups, IsBadLog, HasBadPlace}
-use Rattle.fx_log.specs.Standing.{StandsForLog, GoesOn}
+use Rattle.fx_log.specs.LogReader.{HasReadLog, GoesOn}
 use Rattle.redscript.specs.declared.replaying.Replaying.{Replaying}
 use Rattle.redscript.proofs.Inputs.{items_then-nil, whole_text, no_longer}
 use Rattle.redscript.specs.Replay.{records_of, up_to_limit, Keeps, KeepsUpTo, StopsFeed, StopsTake, StopsLogReading, ReadsLog, PassesLogLimit, Replays, CutsReplay, IsReplayStatus, log_ending, replay_text}
@@ -20,28 +21,6 @@ use Rattle.redscript.specs.Forms.{IsPlay, IsReplay}
 use Rattle.srv_loop.specs.Stops.{Stops, Never}
 use Rattle.srv_loop.specs.Taking.{TookPrefix}
 use Rattle.fx_log.specs.Frames.{within_u64}
-
--- five appends one behind the other
-pub appended : (o o1 o2 o3 o4 o5 a b c d e : List ℕ) → o1 ≡ o ++ a → o2 ≡ o1 ++ b → o3 ≡ o2 ++ c → o4 ≡ o3 ++ d → o5 ≡ o4 ++ e → o5 ≡ o ++ (a ++ b ++ c ++ d ++ e)
-appended o o1 o2 o3 o4 o5 a b c d e e1 e2 e3 e4 e5 =
-    e5 ∙ ap (λ x. x ++ e) (e4 ∙ ap (λ x. x ++ d) (e3 ∙ ap (λ x. x ++ c) (e2 ∙ ap (λ x. x ++ b) e1))) ∙ simp append_assoc
-
--- the first bytes of two texts joined
-pub take-append : (n : ℕ) (xs ys : List ℕ) → take n (xs ++ ys) ≡ take n xs ++ take (n - length xs) ys
-take-append zero xs ys = let none : 0 - length xs ≡ 0 = omega arith in sym (ap (λ m. take m ys) none)
-take-append (suc n) [] ys = let same : suc n - 0 ≡ suc n = omega arith in sym (ap (λ m. take m ys) same)
-take-append (suc n) (x ∷ xs) ys =
-    let same : n - length xs ≡ suc n - length (x ∷ xs) = omega arith in
-    ap (λ l. x ∷ l) (take-append n xs ys ∙ ap (λ m. take n xs ++ take m ys) same)
-
--- taking no more than there is
-pub take-within : (m n : ℕ) (xs : List ℕ) → m ≡ min n (length xs) → take m xs ≡ take n xs
-take-within zero zero xs e = refl
-take-within zero (suc n) [] e = refl
-take-within zero (suc n) (x ∷ xs) e = absurd (omega arith)
-take-within (suc m) zero xs e = absurd (omega arith)
-take-within (suc m) (suc n) [] e = refl
-take-within (suc m) (suc n) (x ∷ xs) e = let same : m ≡ min n (length xs) = omega arith in ap (λ l. x ∷ l) (take-within m n xs same)
 
 pub up_to_limit-within : (text : List ℕ) → length text ≤ 1099511627776 → up_to_limit text ≡ text
 unfolding up_to_limit
@@ -55,7 +34,7 @@ up_to_limit-append text more = take-append 1099511627776 text more
 pub up_to_limit-piece : (text piece : List ℕ) (room within : ℕ) → room ≡ 1099511627776 - length text → within ≡ min room (length piece)
     → up_to_limit (text ++ piece) ≡ up_to_limit text ++ take within piece
 up_to_limit-piece text piece room within is least =
-    up_to_limit-append text piece ∙ ap (λ l. up_to_limit text ++ l) (ap (λ m. take m piece) (sym is) ∙ sym (take-within within room piece least))
+    up_to_limit-append text piece ∙ ap (λ l. up_to_limit text ++ l) (ap (λ m. take m piece) (sym is) ∙ sym (ap (λ m. take m piece) least ∙ take_min room piece))
 
 records_of-append : (groups more : List Group) → records_of (groups ++ more) ≡ records_of groups ++ records_of more
 records_of-append groups more = flat_map-append (λ (group : Group). group.records) groups more
@@ -76,7 +55,7 @@ Keeps-more old new text piece groups goes space count keeps = record {
 }
 
 -- nothing was read
-pub KeepsUpTo-empty : (new : Replaying) → StandsForLog new.reader [] → (HasBadPlace [] → ⊥) → IsGroups [] [] → new.space ≡ finite.empty → new.groups ≡ 0 → new.room ≡ 1099511627776 → KeepsUpTo new []
+pub KeepsUpTo-empty : (new : Replaying) → HasReadLog new.reader [] → (HasBadPlace [] → ⊥) → IsGroups [] [] → new.space ≡ finite.empty → new.groups ≡ 0 → new.room ≡ 1099511627776 → KeepsUpTo new []
 KeepsUpTo-empty new reader good groups space count room =
     let short : length {A = ℕ} [] ≤ 1099511627776 = omega arith in
     let whole : Keeps new [] = record {
@@ -164,12 +143,9 @@ ReadsLog-ended replaying input between input' text buffer n read last no_more en
     )
 
 -- the front of a buffer that was filled
-pub filled_front : (n len : ℕ) (filled rest : List ℕ) → n ≤ length filled → n ≤ len → take n (take len (filled ++ rest)) ≡ take n filled
-filled_front zero len filled rest short fits = refl
-filled_front (suc n) zero filled rest short fits = absurd (omega arith)
-filled_front (suc n) (suc len) [] rest short fits = absurd (omega arith)
-filled_front (suc n) (suc len) (b ∷ filled) rest short fits =
-    let short' : n ≤ length filled = omega arith in let fits' : n ≤ len = omega arith in ap (λ l. b ∷ l) (filled_front n len filled rest short' fits')
+pub filled_front : (n len : ℕ) (filled rest : List ℕ) → n ≤ length filled → n ≤ len
+    → take n (take len (filled ++ rest)) ≡ take n filled
+filled_front n len filled rest short fits = take-take n len (filled ++ rest) fits ∙ take-append-le n filled rest short
 
 -- why reading a log stopped, by why a piece was not taken
 pub StopsLogReading-from_take : (status : Status) (input input' : Option (List ℕ)) (text : List ℕ) (rose : Type 0) → input ≡ items_then text input' → StopsTake text status → StopsLogReading input input' rose status

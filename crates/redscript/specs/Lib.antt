@@ -4,7 +4,7 @@ pub use Rattle.srv_loop.specs.Runs
 pub use Rattle.srv_loop.specs.Transcript
 pub use Rattle.srv_loop.specs.Play
 pub use Rattle.fx_log.specs.Logs
-pub use Rattle.fx_log.specs.Standing
+pub use Rattle.fx_log.specs.LogReader
 pub use Rattle.fx_log.specs.Dump
 pub use Rattle.ks_space.specs.Store
 pub use Rattle.fx_record.specs.Records

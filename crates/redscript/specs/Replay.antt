@@ -13,7 +13,7 @@ use Rattle.fx_log.specs.declared.stops.LogKind.{LogKind}
 use Rattle.fx_log.specs.Dump.{dump}
 use Rattle.fx_log.specs.Frames.{within_u64}
 use Rattle.fx_log.specs.Logs.{IsGroups, IsBadLog, HasBadPlace}
-use Rattle.fx_log.specs.Standing.{StandsForLog}
+use Rattle.fx_log.specs.LogReader.{HasReadLog}
 use Rattle.srv_loop.specs.Taking.{TookPrefix}
 use Rattle.redscript.specs.declared.replaying.Replaying.{Replaying}
 
@@ -77,7 +77,7 @@ pub record CutsReplay (input input' out out' : Option (List ℕ)) : Type 0 where
 
 -- what is kept of a log whose bytes so far are these: the reader, and what the whole groups lead to
 pub record Keeps (replaying : Replaying) (text : List ℕ) : Type 0 where
-  pub reader : StandsForLog replaying.reader text
+  pub reader : HasReadLog replaying.reader text
   pub good : HasBadPlace text → ⊥
   pub groups : List Group
   pub groups_are : IsGroups text groups

@@ -15,7 +15,7 @@ use Rattle.resp_read.specs.Frames.{count_line, Form, IsNoLf, IsAtWord, IsDue, Is
 use Rattle.resp_read.specs.Limits.{HasWords, FitsNumber, FitsDigits, FitsIn}
 use Rattle.resp_read.specs.Automaton.{next_in, front, digits_of, kept_in, kept, is_dead, kind_in}
 use Rattle.resp_read.proofs.Cases.{either_way}
-use Rattle.resp_read.proofs.EachOf.{each-append}
+use Rattle.rs_base.proofs.Lists.{each-append}
 use Rattle.resp_read.proofs.Meaning.{Breaks, Reads-longest, Breaks-place}
 
 no_lf-decimal : (n : ℕ) → n < 2 ^ 64 → AllByRecursion IsNoLf (decimal n)
@@ -29,14 +29,17 @@ number-small ForCount room n fits = omega arith
 number-small ForNegative room n fits = omega (arith, fits.1)
 number-small (ForWord behind) room n fits = omega (arith, fits.1)
 
-no_lf-digits : (line : Line) (room : ℕ) (number : Option ℕ) → FitsDigits line room number → AllByRecursion IsNoLf (digits_of number)
+no_lf-digits : (line : Line) (room : ℕ) (number : Option ℕ) → FitsDigits line room number
+    → AllByRecursion IsNoLf (digits_of number)
 no_lf-digits line room None fits = tt
 no_lf-digits line room (Some n) fits = no_lf-decimal n (number-small line room n fits)
 
 no_lf-end : (line : Line) (room n : ℕ) → FitsNumber line room n → AllByRecursion IsNoLf (decimal n ++ 13 ∷ [])
-no_lf-end line room n fits = each-append IsNoLf (decimal n) (13 ∷ []) (no_lf-decimal n (number-small line room n fits)) ((λ e. omega arith), tt)
+no_lf-end line room n fits =
+    each-append IsNoLf (decimal n) (13 ∷ []) (no_lf-decimal n (number-small line room n fits)) ((λ e. omega arith), tt)
 
-abbrev at-word : (words : List (List ℕ)) (room behind : ℕ) → HasWords words room (behind + 1) → IsAtWord (front (behind + 1) words)
+abbrev at-word : (words : List (List ℕ)) (room behind : ℕ) → HasWords words room (behind + 1)
+    → IsAtWord (front (behind + 1) words)
 at-word words room behind has = record {
   count = length words + (behind + 1);
   words = words;
@@ -44,13 +47,21 @@ at-word words room behind has = record {
 }
 
 no-death : (behind more : ℕ) → is_dead (cond (eqb more 0) (WordCr behind) (InWord behind (more - 1))) ≡ true → ⊥
-no-death behind more = either_way (λ t. is_dead (cond t (WordCr behind) (InWord behind (more - 1))) ≡ true → ⊥) (eqb more 0) (λ e. cc) (λ e. cc)
+no-death behind more = either_way (λ t. is_dead (cond t (WordCr behind) (InWord behind (more - 1))) ≡ true
+    → ⊥) (eqb more 0) (λ e. cc) (λ e. cc)
 
-due_in : (phase : Phase) (s : Parser) (b : ℕ) → FitsIn phase s.words s.word s.room → is_dead (next_in phase s b).phase ≡ true → IsDue (kind_in phase) (kept_in phase s.words s.word)
+due_in : (phase : Phase) (s : Parser) (b : ℕ) → FitsIn phase s.words s.word s.room
+    → is_dead (next_in phase s b).phase ≡ true → IsDue (kind_in phase) (kept_in phase s.words s.word)
 due_in AtStar s b fits gone = refl
-due_in (InLine ForCount number) s b fits gone = record { line = digits_of number; rest_is = refl; open_line = no_lf-digits ForCount s.room number fits.1 }
+due_in (InLine ForCount number) s b fits gone =
+    record { line = digits_of number; rest_is = refl; open_line = no_lf-digits ForCount s.room number fits.1 }
 due_in (InLine ForNegative number) s b fits gone =
-    record { line = 45 ∷ digits_of number; rest_is = refl; open_line = ((λ e. omega arith), no_lf-digits ForNegative s.room number fits.1) }
+    record {
+      line = 45 ∷ digits_of number;
+      rest_is = refl;
+      open_line =
+          ((λ e. omega arith), no_lf-digits ForNegative s.room number fits.1);
+    }
 due_in (InLine (ForWord behind) number) s b fits gone = record {
   before = front (behind + 1) s.words;
   line = digits_of number;
@@ -58,9 +69,15 @@ due_in (InLine (ForWord behind) number) s b fits gone = record {
   rest_is = refl;
   open_line = no_lf-digits (ForWord behind) s.room number fits.1;
 }
-due_in (LineEnd ForCount n) s b fits gone = record { line = decimal n ++ 13 ∷ []; rest_is = refl; open_line = no_lf-end ForCount s.room n fits.1 }
+due_in (LineEnd ForCount n) s b fits gone =
+    record { line = decimal n ++ 13 ∷ []; rest_is = refl; open_line = no_lf-end ForCount s.room n fits.1 }
 due_in (LineEnd ForNegative n) s b fits gone =
-    record { line = 45 ∷ (decimal n ++ 13 ∷ []); rest_is = refl; open_line = ((λ e. omega arith), no_lf-end ForNegative s.room n fits.1) }
+    record {
+      line = 45 ∷ (decimal n ++ 13 ∷ []);
+      rest_is = refl;
+      open_line =
+          ((λ e. omega arith), no_lf-end ForNegative s.room n fits.1);
+    }
 due_in (LineEnd (ForWord behind) n) s b fits gone = record {
   before = front (behind + 1) s.words;
   line = decimal n ++ 13 ∷ [];
@@ -77,7 +94,8 @@ due_in (WordCr behind) s b fits gone = record {
   at_word = at-word s.words s.room behind fits.0;
   short = fits.1.1;
   fits = omega (arith, fits.0.all, fits.1.0);
-  rest_is = ap (λ w. front (behind + 1) s.words ++ (count_line (codes "$") (length s.word) ++ w)) (sym (append-nil s.word));
+  rest_is =
+      ap (λ w. front (behind + 1) s.words ++ (count_line (codes "$") (length s.word) ++ w)) (sym (append-nil s.word));
   cr_is = inl refl;
 }
 due_in (WordLf behind) s b fits gone = record {
@@ -93,14 +111,17 @@ due_in (WordLf behind) s b fits gone = record {
 due_in Dead s b fits gone = absurd fits
 
 -- the byte that breaks a text is the bad one, of the kind that is due
-pub Breaks-bad : (text : List ℕ) (forms : List Form) (place : ℕ) (kind : BadFrame) → Breaks text forms place kind → IsBad text place kind
+pub Breaks-bad : (text : List ℕ) (forms : List Form) (place : ℕ) (kind : BadFrame) → Breaks text forms place kind
+    → IsBad text place kind
 Breaks-bad text forms place kind breaks =
     let before : take place text ≡ breaks.good =
-    ap (λ n. take n text) breaks.place_is ∙ ap (take (length breaks.good)) breaks.text_is ∙ take-append_seam breaks.good (breaks.byte ∷ breaks.behind) in
+    ap (λ n. take n text) breaks.place_is ∙ ap (take (length breaks.good)) breaks.text_is
+    ∙ take-append_seam breaks.good (breaks.byte ∷ breaks.behind) in
     record {
       forms = forms;
       rest = kept breaks.state;
       at = Breaks-place text forms place kind breaks;
-      row = rw before (Reads-longest breaks.good breaks.state forms breaks.reads);
-      due = subst (λ (k : BadFrame). IsDue k (kept breaks.state)) (sym breaks.kind_is) (due_in breaks.state.phase breaks.state breaks.byte breaks.reads.fits breaks.dead);
+      sequence = rw before (Reads-longest breaks.good breaks.state forms breaks.reads);
+      due = subst (λ (k : BadFrame). IsDue k (kept breaks.state)) (sym breaks.kind_is)
+          (due_in breaks.state.phase breaks.state breaks.byte breaks.reads.fits breaks.dead);
     }

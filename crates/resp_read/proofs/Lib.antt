@@ -1,12 +1,11 @@
 pub mod BadBytes
 pub mod Cases
-pub mod Continuing
-pub mod EachOf
-pub mod Feeding
+pub mod Continuations
+pub mod Pieces
 pub mod GrammarLaws
 pub mod Meaning
 pub mod OneKind
-pub mod Reached
-pub mod Rows
-pub mod Standing
+pub mod ReachedStates
+pub mod Sequences
+pub mod Positions
 pub mod Steps

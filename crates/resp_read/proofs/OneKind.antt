@@ -11,12 +11,12 @@ use Rattle.resp_read.specs.declared.phase.Phase.TheVariants.{AtStar, InLine, Lin
 use Rattle.resp_read.specs.declared.parser.Parser.{Parser}
 use Rattle.resp_read.specs.declared.stops.BadFrame.{BadFrame}
 use Rattle.resp_read.specs.declared.stops.BadFrame.TheVariants.{NoStar, Count, NoDollar, Length, NoEnd}
-use Rattle.resp_read.specs.Frames.{count_line, row_text, Form, EmptyArray, NegativeArray, IsNoLf, IsDue, IsBad, IsBadPlace, LongestRow, Begins}
+use Rattle.resp_read.specs.Frames.{count_line, sequence_text, Form, EmptyArray, NegativeArray, IsNoLf, IsDue, IsBad, IsBadPlace, LongestSequence, Begins}
 use Rattle.resp_read.specs.Automaton.{limit, with_digit, phase_after, fresh, next, next_in, out, out_in, line_ended, with_form, kept, is_dead, kind_in, line_kind}
 use Rattle.resp_read.specs.Reading.{Broken, read_from}
 use Rattle.resp_read.proofs.Cases.{by_test}
-use Rattle.resp_read.proofs.Rows.{state_of, read-front, read-word_bytes}
-use Rattle.resp_read.proofs.Continuing.{one-row, Begins-front}
+use Rattle.resp_read.proofs.Sequences.{state_of, read-front, read-word_bytes}
+use Rattle.resp_read.proofs.Continuations.{one-sequence, Begins-front}
 
 -- in a line of which a bad byte has this kind
 abbrev InLineOf : BadFrame → Phase → Type 0
@@ -27,14 +27,16 @@ InLineOf kind phase = ⊥
 abbrev Stays : BadFrame → Phase → Type 0
 Stays kind phase = (is_dead phase ≡ true) ⊎ InLineOf kind phase
 
-stays-digit : (kind : BadFrame) (r : ℕ) (line : Line) (n b : ℕ) → line_kind line ≡ kind → Stays kind (with_digit r line n b)
+stays-digit : (kind : BadFrame) (r : ℕ) (line : Line) (n b : ℕ) → line_kind line ≡ kind
+    → Stays kind (with_digit r line n b)
 stays-digit kind r line n b is = by_test
     (λ t. Stays kind (cond t (InLine line (Some (n * 10 + (b - 48)))) Dead))
     ((leb 48 b && leb b 57) && leb (n * 10 + (b - 48)) (limit r line))
     (λ e. inr is)
     (λ e. inl refl)
 
-stays : (kind : BadFrame) (r : ℕ) (line : Line) (number : Option ℕ) (b : ℕ) → line_kind line ≡ kind → Stays kind (phase_after r (InLine line number) b)
+stays : (kind : BadFrame) (r : ℕ) (line : Line) (number : Option ℕ) (b : ℕ) → line_kind line ≡ kind
+    → Stays kind (phase_after r (InLine line number) b)
 stays kind r ForCount None b is = by_test
     (λ t. Stays kind (cond t (InLine ForNegative None) (with_digit r ForCount 0 b)))
     (eqb b 45)
@@ -60,11 +62,13 @@ stays kind r line (Some n) b is = by_test
 abbrev BreaksOf : BadFrame → Parser → List Form → List ℕ → Type 0
 BreaksOf kind s forms text = (place : ℕ) × (read_from s forms text ≡ Broken forms place kind)
 
-breaks-at : (kind : BadFrame) (s : Parser) (b : ℕ) (forms : List Form) (rest : List ℕ) → is_dead (next s b).phase ≡ true → kind_in s.phase ≡ kind → BreaksOf kind s forms (b ∷ rest)
+breaks-at : (kind : BadFrame) (s : Parser) (b : ℕ) (forms : List Form) (rest : List ℕ) → is_dead (next s b).phase ≡ true
+    → kind_in s.phase ≡ kind → BreaksOf kind s forms (b ∷ rest)
 breaks-at kind s b forms rest gone is =
-    let place = length (row_text forms) + length (kept s) in (
+    let place = length (sequence_text forms) + length (kept s) in (
       place,
-      cond-true (is_dead (next s b).phase) (Broken forms place (kind_in s.phase)) (read_from (next s b) (with_form forms (out s b)) rest) gone ∙ ap (Broken forms place) is,
+      cond-true (is_dead (next s b).phase) (Broken forms place (kind_in s.phase))
+          (read_from (next s b) (with_form forms (out s b)) rest) gone ∙ ap (Broken forms place) is,
     )
 
 -- a byte of a line, other than its LF
@@ -75,9 +79,17 @@ record LineStep (kind : BadFrame) (phase : Phase) (s : Parser) (b : ℕ) : Type 
   kind_is : kind_in phase ≡ kind
   goes : Stays kind after
 
-line-step : (kind : BadFrame) (phase : Phase) (s : Parser) (b : ℕ) → InLineOf kind phase → (b ≡ 10 → ⊥) → LineStep kind phase s b
+line-step : (kind : BadFrame) (phase : Phase) (s : Parser) (b : ℕ) → InLineOf kind phase → (b ≡ 10 → ⊥)
+    → LineStep kind phase s b
 line-step kind (InLine line number) s b is other =
-    record { after = phase_after s.room (InLine line number) b; next_is = refl; out_is = refl; kind_is = is; goes = stays kind s.room line number b is }
+    record {
+      after = phase_after s.room (InLine line number) b;
+      next_is = refl;
+      out_is = refl;
+      kind_is = is;
+      goes =
+          stays kind s.room line number b is;
+    }
 line-step kind (LineEnd ForCount n) s b is other =
     let e = ne_eqb b 10 other in
     record {
@@ -123,11 +135,16 @@ line-live kind (WordLf behind) is = absurd is
 line-live kind Dead is = absurd is
 
 -- the byte 0 stands in no line
-zero-breaks : (kind : BadFrame) (phase : Phase) (ws : List (List ℕ)) (w : List ℕ) (r : ℕ) (forms : List Form) → InLineOf kind phase → BreaksOf kind (state_of phase ws w r) forms (0 ∷ [])
-zero-breaks kind (InLine ForCount None) ws w r forms is = breaks-at kind (state_of (InLine ForCount None) ws w r) 0 forms [] refl is
-zero-breaks kind (InLine ForNegative None) ws w r forms is = breaks-at kind (state_of (InLine ForNegative None) ws w r) 0 forms [] refl is
-zero-breaks kind (InLine (ForWord behind) None) ws w r forms is = breaks-at kind (state_of (InLine (ForWord behind) None) ws w r) 0 forms [] refl is
-zero-breaks kind (InLine line (Some n)) ws w r forms is = breaks-at kind (state_of (InLine line (Some n)) ws w r) 0 forms []
+zero-breaks : (kind : BadFrame) (phase : Phase) (ws : List (List ℕ)) (w : List ℕ) (r : ℕ) (forms : List Form)
+    → InLineOf kind phase → BreaksOf kind (state_of phase ws w r) forms (0 ∷ [])
+zero-breaks kind (InLine ForCount None) ws w r forms is =
+    breaks-at kind (state_of (InLine ForCount None) ws w r) 0 forms [] refl is
+zero-breaks kind (InLine ForNegative None) ws w r forms is =
+    breaks-at kind (state_of (InLine ForNegative None) ws w r) 0 forms [] refl is
+zero-breaks kind (InLine (ForWord behind) None) ws w r forms is =
+    breaks-at kind (state_of (InLine (ForWord behind) None) ws w r) 0 forms [] refl is
+zero-breaks kind (InLine line (Some n)) ws w r forms is =
+    breaks-at kind (state_of (InLine line (Some n)) ws w r) 0 forms []
     (by_test (λ t. is_dead (cond t Dead (with_digit r line n 0)) ≡ true) (eqb n 0) (λ e. refl) (λ e. refl)) is
 zero-breaks kind (LineEnd line n) ws w r forms is = breaks-at kind (state_of (LineEnd line n) ws w r) 0 forms [] refl is
 zero-breaks kind AtStar ws w r forms is = absurd is
@@ -138,47 +155,67 @@ zero-breaks kind (WordLf behind) ws w r forms is = absurd is
 zero-breaks kind Dead ws w r forms is = absurd is
 
 -- a line that is not at its end breaks in that line, whatever its bytes are
-line-breaks : (kind : BadFrame) (phase : Phase) (ws : List (List ℕ)) (w : List ℕ) (r : ℕ) (forms : List Form) (line : List ℕ) → InLineOf kind phase → AllByRecursion IsNoLf line
+line-breaks : (kind : BadFrame) (phase : Phase) (ws : List (List ℕ)) (w : List ℕ) (r : ℕ) (forms : List Form)
+    (line : List ℕ) → InLineOf kind phase → AllByRecursion IsNoLf line
     → BreaksOf kind (state_of phase ws w r) forms (line ++ 0 ∷ [])
 line-breaks kind phase ws w r forms [] is no_lf = zero-breaks kind phase ws w r forms is
 line-breaks kind phase ws w r forms (b ∷ line) is no_lf =
     let moves = line-step kind phase (state_of phase ws w r) b is no_lf.0 in
-    let place = length (row_text forms) + length (kept (state_of phase ws w r)) in
+    let place = length (sequence_text forms) + length (kept (state_of phase ws w r)) in
     let broken = Broken forms place (kind_in phase) in
-    let read_at = λ (n : Parser) (o : Option Form). cond (is_dead n.phase) broken (read_from n (with_form forms o) (line ++ 0 ∷ [])) in
-    let read : read_from (state_of phase ws w r) forms ((b ∷ line) ++ 0 ∷ []) ≡ cond (is_dead moves.after) broken (read_from (state_of moves.after ws w r) forms (line ++ 0 ∷ [])) =
-    ap (λ (n : Parser). read_at n (out_in phase (state_of phase ws w r) b)) moves.next_is ∙ ap (read_at (state_of moves.after ws w r)) moves.out_is in
-    by_stay moves.after place moves.kind_is read (λ here. line-breaks kind moves.after ws w r forms line here no_lf.1) moves.goes
+    let read_at =
+    λ (n : Parser) (o : Option Form). cond (is_dead n.phase) broken
+    (read_from n (with_form forms o) (line ++ 0 ∷ [])) in
+    let read : read_from (state_of phase ws w r) forms ((b ∷ line) ++ 0 ∷ [])
+    ≡ cond (is_dead moves.after) broken (read_from (state_of moves.after ws w r) forms (line ++ 0 ∷ [])) =
+    ap (λ (n : Parser). read_at n (out_in phase (state_of phase ws w r) b)) moves.next_is
+    ∙ ap (read_at (state_of moves.after ws w r)) moves.out_is in
+    by_stay moves.after place moves.kind_is read (λ here. line-breaks kind moves.after ws w r forms line here no_lf.1)
+    moves.goes
   where
     by_stay : (after : Phase) (place : ℕ) → kind_in phase ≡ kind
-        → read_from (state_of phase ws w r) forms ((b ∷ line) ++ 0 ∷ []) ≡ cond (is_dead after) (Broken forms place (kind_in phase)) (read_from (state_of after ws w r) forms (line ++ 0 ∷ []))
+        → read_from (state_of phase ws w r) forms ((b ∷ line) ++ 0 ∷ [])
+        ≡ cond (is_dead after) (Broken forms place (kind_in phase))
+        (read_from (state_of after ws w r) forms (line ++ 0 ∷ []))
         → (InLineOf kind after → BreaksOf kind (state_of after ws w r) forms (line ++ 0 ∷ []))
         → Stays kind after → BreaksOf kind (state_of phase ws w r) forms ((b ∷ line) ++ 0 ∷ [])
-    by_stay after place kind_is read later (inl gone) =
-        (place, read ∙ cond-true (is_dead after) (Broken forms place (kind_in phase)) (read_from (state_of after ws w r) forms (line ++ 0 ∷ [])) gone ∙ ap (Broken forms place) kind_is)
+    by_stay after place kind_is read later (inl gone) = (
+      place,
+      read ∙ cond-true (is_dead after) (Broken forms place (kind_in phase))
+          (read_from (state_of after ws w r) forms (line ++ 0 ∷ [])) gone ∙ ap (Broken forms place) kind_is,
+    )
     by_stay after place kind_is read later (inr here) =
-        let breaks = later here in
-        (breaks.0, read ∙ cond-false (is_dead after) (Broken forms place (kind_in phase)) (read_from (state_of after ws w r) forms (line ++ 0 ∷ [])) (line-live kind after here) ∙ breaks.1)
+        let breaks = later here in (
+          breaks.0,
+          read ∙ cond-false (is_dead after) (Broken forms place (kind_in phase))
+              (read_from (state_of after ws w r) forms (line ++ 0 ∷ [])) (line-live kind after here) ∙ breaks.1,
+        )
 
 end-breaks : (left : ℕ) (words : List (List ℕ)) (word : List ℕ) (room : ℕ) (cr : List ℕ) → (cr ≡ []) ⊎ (cr ≡ 13 ∷ [])
     → BreaksOf NoEnd (state_of (WordCr left) words word room) [] (cr ++ 0 ∷ [])
 end-breaks left words word room cr (inl none) =
-    subst (λ e. BreaksOf NoEnd (state_of (WordCr left) words word room) [] (e ++ 0 ∷ [])) (sym none) (breaks-at NoEnd (state_of (WordCr left) words word room) 0 [] [] refl refl)
+    subst (λ e. BreaksOf NoEnd (state_of (WordCr left) words word room) [] (e ++ 0 ∷ [])) (sym none)
+    (breaks-at NoEnd (state_of (WordCr left) words word room) 0 [] [] refl refl)
 end-breaks left words word room cr (inr one) =
-    subst (λ e. BreaksOf NoEnd (state_of (WordCr left) words word room) [] (e ++ 0 ∷ [])) (sym one) (breaks-at NoEnd (state_of (WordLf left) words word room) 0 [] [] refl refl)
+    subst (λ e. BreaksOf NoEnd (state_of (WordCr left) words word room) [] (e ++ 0 ∷ [])) (sym one)
+    (breaks-at NoEnd (state_of (WordLf left) words word room) 0 [] [] refl refl)
 
 -- what is due of a kind breaks with that kind at the byte 0
 due-breaks : (kind : BadFrame) (rest : List ℕ) → IsDue kind rest → BreaksOf kind fresh [] (rest ++ 0 ∷ [])
-due-breaks NoStar rest due = subst (λ t. BreaksOf NoStar fresh [] (t ++ 0 ∷ [])) (sym due) (breaks-at NoStar fresh 0 [] [] refl refl)
+due-breaks NoStar rest due =
+    subst (λ t. BreaksOf NoStar fresh [] (t ++ 0 ∷ [])) (sym due) (breaks-at NoStar fresh 0 [] [] refl refl)
 due-breaks Count rest due =
-    subst (λ t. BreaksOf Count fresh [] (t ++ 0 ∷ [])) (sym due.rest_is) (line-breaks Count (InLine ForCount None) [] [] MAX_COMMAND_BYTES [] due.line refl due.open_line)
+    subst (λ t. BreaksOf Count fresh [] (t ++ 0 ∷ [])) (sym due.rest_is)
+    (line-breaks Count (InLine ForCount None) [] [] MAX_COMMAND_BYTES [] due.line refl due.open_line)
 due-breaks NoDollar rest due =
-    let at = breaks-at NoDollar (state_of (AtDollar (due.count - length due.words - 1)) due.words [] (MAX_COMMAND_BYTES - sum_by length due.words)) 0 [] [] refl refl in
+    let at = breaks-at NoDollar (state_of (AtDollar (due.count - length due.words - 1)) due.words []
+    (MAX_COMMAND_BYTES - sum_by length due.words)) 0 [] [] refl refl in
     (at.0, read-front rest due.count due.words [] (0 ∷ []) due.front ∙ at.1)
 due-breaks Length rest due =
     let words = due.at_word.words in
     let left = due.at_word.count - length words - 1 in
-    let at = line-breaks Length (InLine (ForWord left) None) words [] (MAX_COMMAND_BYTES - sum_by length words) [] due.line refl due.open_line in (
+    let at = line-breaks Length (InLine (ForWord left) None) words [] (MAX_COMMAND_BYTES - sum_by length words) []
+    due.line refl due.open_line in (
       at.0,
       ap (λ t. read_from fresh [] (t ++ 0 ∷ [])) due.rest_is
           ∙ ap (read_from fresh []) (regroup due.before due.line)
@@ -196,8 +233,10 @@ due-breaks NoEnd rest due =
     let at = end-breaks left words due.word room due.cr due.cr_is in (
       at.0,
       ap (λ t. read_from fresh [] (t ++ 0 ∷ [])) due.rest_is
-          ∙ ap (read_from fresh []) (regroup due.before (count_line (codes "$") (length due.word)) due.word due.cr (0 ∷ []))
-          ∙ read-front due.before due.at_word.count words [] (count_line (codes "$") (length due.word) ++ (due.word ++ (due.cr ++ 0 ∷ []))) due.at_word.front
+          ∙ ap (read_from fresh [])
+          (regroup due.before (count_line (codes "$") (length due.word)) due.word due.cr (0 ∷ []))
+          ∙ read-front due.before due.at_word.count words []
+          (count_line (codes "$") (length due.word) ++ (due.word ++ (due.cr ++ 0 ∷ []))) due.at_word.front
           ∙ read-word_bytes left words room due.word [] (due.cr ++ 0 ∷ []) due.short (omega arith)
           ∙ at.1,
     )
@@ -216,11 +255,13 @@ pub take-front : (n m : ℕ) (xs : List ℕ) → n ≤ m → (more : List ℕ) �
 take-front zero m xs less = (take m xs, refl)
 take-front (suc n) zero xs less = absurd (omega arith)
 take-front (suc n) (suc m) [] less = ([], refl)
-take-front (suc n) (suc m) (x ∷ xs) less = let later = take-front n m xs (omega arith) in (later.0, ap (λ t. x ∷ t) later.1)
+take-front (suc n) (suc m) (x ∷ xs) less = let later = take-front n m xs (omega arith) in
+    (later.0, ap (λ t. x ∷ t) later.1)
 
--- a text that goes on to a row up to a place does so up to each earlier one
+-- a text that goes on to a sequence up to a place does so up to each earlier one
 take-begins : (text : List ℕ) (n m : ℕ) → n ≤ m → Begins (take m text) → Begins (take n text)
-take-begins text n m less begins = let front = take-front n m text less in Begins-front (take n text) front.0 (subst Begins front.1 begins)
+take-begins text n m less begins = let front = take-front n m text less in
+    Begins-front (take n text) front.0 (subst Begins front.1 begins)
 
 one-place : (text : List ℕ) (place at : ℕ) → IsBadPlace text place → IsBadPlace text at → place ≤ at
 one-place text place at a b = by_order (cases_lt at place)
@@ -230,12 +271,14 @@ one-place text place at a b = by_order (cases_lt at place)
     by_order (inr more) = more
 
 pub one-bad_place : (text : List ℕ) (place at : ℕ) → IsBadPlace text place → IsBadPlace text at → place ≡ at
-one-bad_place text place at a b = let low = one-place text place at a b in let high = one-place text at place b a in omega arith
+one-bad_place text place at a b = let low = one-place text place at a b in let high = one-place text at place b a in
+    omega arith
 
 -- and one bad byte, of one kind
-pub one-bad : (text : List ℕ) (place at : ℕ) (kind what : BadFrame) → IsBad text place kind → IsBad text at what → (place ≡ at) × (kind ≡ what)
+pub one-bad : (text : List ℕ) (place at : ℕ) (kind what : BadFrame) → IsBad text place kind → IsBad text at what
+    → (place ≡ at) × (kind ≡ what)
 one-bad text place at kind what a b =
     let here = one-bad_place text place at a.at b.at in
-    let row = subst (λ n. LongestRow (take n text) b.forms b.rest) (sym here) b.row in
-    let same = one-row (take place text) a.forms b.forms a.rest b.rest a.row row in
+    let sequence = subst (λ n. LongestSequence (take n text) b.forms b.rest) (sym here) b.sequence in
+    let same = one-sequence (take place text) a.forms b.forms a.rest b.rest a.sequence sequence in
     (here, one-kind kind what a.rest a.due (subst (IsDue what) (sym same.1) b.due))

@@ -20,7 +20,9 @@ limit room (ForWord behind) = min room MAX_WORD_BYTES
 -- a digit behind the number `n`
 abbrev pub with_digit : ℕ → Line → ℕ → ℕ → Phase
 with_digit room line n b =
-    if (nat_le 48 b && nat_le b 57) && nat_le (n * 10 + (b - 48)) (limit room line) then InLine line (Some (n * 10 + (b - 48))) else Dead
+    if (nat_le 48 b && nat_le b 57) && nat_le (n * 10 + (b - 48)) (limit room line)
+    then InLine line (Some (n * 10 + (b - 48)))
+    else Dead
 
 -- the first byte of a number: its digit, or the sign of a negative array
 abbrev pub first_in_line : ℕ → Line → ℕ → Phase
@@ -62,11 +64,17 @@ fresh = record { phase = AtStar; words = []; word = []; room = MAX_COMMAND_BYTES
 abbrev pub with_word : ℕ → Parser → Parser
 with_word behind s =
     if behind == 0 then fresh
-    else record { phase = AtDollar (behind - 1); words = s.words ++ s.word ∷ []; word = []; room = s.room - length s.word }
+    else record {
+      phase = AtDollar (behind - 1);
+      words = s.words ++ s.word ∷ [];
+      word = [];
+      room = s.room - length s.word;
+    }
 
 -- the state after a byte, in a phase
 abbrev pub next_in : Phase → Parser → ℕ → Parser
-next_in (InWord behind more) s b = record s { phase = phase_after s.room (InWord behind more) b; word = s.word ++ b ∷ [] }
+next_in (InWord behind more) s b =
+    record s { phase = phase_after s.room (InWord behind more) b; word = s.word ++ b ∷ [] }
 next_in (WordLf behind) s b = if b == 10 then with_word behind s else record s { phase = Dead }
 next_in phase s b = record s { phase = phase_after s.room phase b }
 
@@ -105,11 +113,13 @@ digits_of (Some n) = decimal n
 abbrev pub kept_in : Phase → List (List ℕ) → List ℕ → List ℕ
 kept_in AtStar words word = []
 kept_in (InLine line number) words word = line_front line words ++ digits_of number
-kept_in (LineEnd line n) words word = line_front line words ++ (decimal n ++ 13 ∷ [])
+kept_in (LineEnd line n) words word = line_front line words ++ (decimal n ++ codes "\r")
 kept_in (AtDollar behind) words word = front (behind + 1) words
-kept_in (InWord behind more) words word = front (behind + 1) words ++ (count_line (codes "$") (length word + (more + 1)) ++ word)
+kept_in (InWord behind more) words word =
+    front (behind + 1) words ++ (count_line (codes "$") (length word + (more + 1)) ++ word)
 kept_in (WordCr behind) words word = front (behind + 1) words ++ (count_line (codes "$") (length word) ++ word)
-kept_in (WordLf behind) words word = front (behind + 1) words ++ (count_line (codes "$") (length word) ++ (word ++ 13 ∷ []))
+kept_in (WordLf behind) words word =
+    front (behind + 1) words ++ (count_line (codes "$") (length word) ++ (word ++ codes "\r"))
 kept_in Dead words word = []
 
 abbrev pub kept : Parser → List ℕ

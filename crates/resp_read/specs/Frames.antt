@@ -1,17 +1,18 @@
 -- The frames of RESP2 requests: a command is an array of bulk strings, its words.
 use Rattle.std.specs.Prelude.{◌≡◌, ℕ, ◌+◌, ◌-◌, ◌^◌, ◌<◌, ◌≤◌, ◌⊎◌, min, List, [], ◌∷◌, ◌++◌, length, take, decimal, codes, sum_by}
 use Rattle.std.specs.List.{AllByRecursion, flat_map}
+use Rattle.rs_base.specs.Bytes.{crlf}
 use Rattle.resp_read.specs.declared.command.Command.{Command}
 use Rattle.resp_read.specs.declared.stops.BadFrame.{BadFrame}
 use Rattle.resp_read.specs.declared.stops.BadFrame.TheVariants.{NoStar, Count, NoDollar, Length, NoEnd}
 
 -- a mark, a number in digits, and the end of a line: `*2` CR LF for an array of two, `$5` CR LF for five bytes
 abbrev pub count_line : List ℕ → ℕ → List ℕ
-count_line mark n = mark ++ decimal n ++ 13 ∷ 10 ∷ []
+count_line mark n = mark ++ decimal n ++ crlf
 
 -- a word: how many bytes it has, the bytes, and CR LF
 abbrev pub bulk : List ℕ → List ℕ
-bulk word = count_line (codes "$") (length word) ++ word ++ 13 ∷ 10 ∷ []
+bulk word = count_line (codes "$") (length word) ++ word ++ crlf
 
 -- a command: how many words it has, and the words
 abbrev pub frame : List (List ℕ) → List ℕ
@@ -44,24 +45,25 @@ IsForm EmptyArray = Unit {0}
 IsForm (NegativeArray n) = (1 ≤ n) × (n ≤ 65536)
 
 -- the text of forms one behind the other
-abbrev pub row_text : List Form → List ℕ
-row_text forms = flat_map form_text forms
+abbrev pub sequence_text : List Form → List ℕ
+sequence_text forms = flat_map form_text forms
 
-pub record IsRow (text : List ℕ) (forms : List Form) : Type 0 where
+pub record IsSequence (text : List ℕ) (forms : List Form) : Type 0 where
   pub each : AllByRecursion IsForm forms
-  pub text_is : text ≡ row_text forms
+  pub text_is : text ≡ sequence_text forms
 
--- the text can go on to a row of forms
+-- the text can go on to a sequence of forms
 abbrev pub Begins : List ℕ → Type 0
-Begins text = (more : List ℕ) × (forms : List Form) × IsRow (text ++ more) forms
+Begins text = (more : List ℕ) × (forms : List Form) × IsSequence (text ++ more) forms
 
--- the longest row of forms at the front of a text, and what is left of the text
-pub record LongestRow (text : List ℕ) (forms : List Form) (rest : List ℕ) : Type 0 where
+-- the longest sequence of forms at the front of a text, and what is left of the text
+pub record LongestSequence (text : List ℕ) (forms : List Form) (rest : List ℕ) : Type 0 where
   pub each : AllByRecursion IsForm forms
-  pub text_is : text ≡ row_text forms ++ rest
-  pub longest : (others : List Form) (left : List ℕ) → AllByRecursion IsForm others → text ≡ row_text others ++ left → length rest ≤ length left
+  pub text_is : text ≡ sequence_text forms ++ rest
+  pub longest : (others : List Form) (left : List ℕ)
+      → AllByRecursion IsForm others → text ≡ sequence_text others ++ left → length rest ≤ length left
 
--- the first byte, counted from 0, with which the text can no longer go on to a row of forms
+-- the first byte, counted from 0, with which the text can no longer go on to a sequence of forms
 pub record IsBadPlace (text : List ℕ) (place : ℕ) : Type 0 where
   pub within : place < length text
   pub good : Begins (take place text)
@@ -107,7 +109,7 @@ pub record IsAtEnd (rest : List ℕ) : Type 0 where
   pub short : IsWord word
   pub fits : sum_by length at_word.words + length word ≤ 67108864
   pub rest_is : rest ≡ before ++ (count_line (codes "$") (length word) ++ (word ++ cr))
-  pub cr_is : (cr ≡ []) ⊎ (cr ≡ 13 ∷ [])
+  pub cr_is : (cr ≡ []) ⊎ (cr ≡ codes "\r")
 
 -- the kind of a bad byte, by what stands before it of the form in which it stands
 abbrev pub IsDue : BadFrame → List ℕ → Type 0
@@ -122,7 +124,7 @@ pub record IsBad (text : List ℕ) (place : ℕ) (kind : BadFrame) : Type 0 wher
   pub forms : List Form
   pub rest : List ℕ
   pub at : IsBadPlace text place
-  pub row : LongestRow (take place text) forms rest
+  pub sequence : LongestSequence (take place text) forms rest
   pub due : IsDue kind rest
 
 -- a number as a `u64` that counts: it stands still at its last value
@@ -139,13 +141,14 @@ commands_in (NegativeArray n ∷ forms) = commands_in forms
 -- the commands of forms one behind the other, the first form at `at`, each with the place of its first byte
 abbrev pub commands_from : ℕ → List Form → List Command
 commands_from at [] = []
-commands_from at (Given words ∷ forms) = record { words = words; place = within_u64 at } ∷ commands_from (at + length (frame words)) forms
+commands_from at (Given words ∷ forms) =
+    record { words = words; place = within_u64 at } ∷ commands_from (at + length (frame words)) forms
 commands_from at (EmptyArray ∷ forms) = commands_from (at + length (form_text EmptyArray)) forms
 commands_from at (NegativeArray n ∷ forms) = commands_from (at + length (form_text (NegativeArray n))) forms
 
--- the commands of the longest row of forms at the front of a text
+-- the commands of the longest sequence of forms at the front of a text
 pub record IsWhole (text : List ℕ) (commands : List Command) : Type 0 where
   pub forms : List Form
   pub rest : List ℕ
-  pub row : LongestRow text forms rest
+  pub sequence : LongestSequence text forms rest
   pub commands_are : commands ≡ commands_from 0 forms

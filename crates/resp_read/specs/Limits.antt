@@ -46,7 +46,8 @@ FitsIn AtStar words word room = HasNone words word room
 FitsIn (InLine line number) words word room = FitsLine line words word room × FitsDigits line room number
 FitsIn (LineEnd line n) words word room = FitsLine line words word room × FitsNumber line room n
 FitsIn (AtDollar behind) words word room = HasWords words room (behind + 1) × (word ≡ [])
-FitsIn (InWord behind more) words word room = HasWords words room (behind + 1) × FitsWord room (length word + (more + 1))
+FitsIn (InWord behind more) words word room =
+    HasWords words room (behind + 1) × FitsWord room (length word + (more + 1))
 FitsIn (WordCr behind) words word room = HasWords words room (behind + 1) × FitsWord room (length word)
 FitsIn (WordLf behind) words word room = HasWords words room (behind + 1) × FitsWord room (length word)
 FitsIn Dead words word room = ⊥

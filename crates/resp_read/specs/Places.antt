@@ -5,7 +5,7 @@ use Rattle.resp_read.specs.declared.cursor.BadByte.{BadByte}
 use Rattle.resp_read.specs.declared.cursor.Cursor.{Cursor}
 use Rattle.resp_read.specs.declared.reader.Fate.{Fate}
 use Rattle.resp_read.specs.declared.reader.Fate.TheVariants.{Open, Failed, OutOfMemory}
-use Rattle.resp_read.specs.Frames.{Form, row_text, within_u64, commands_from}
+use Rattle.resp_read.specs.Frames.{Form, sequence_text, within_u64, commands_from}
 use Rattle.resp_read.specs.Automaton.{next, out, kept, kind_in}
 use Rattle.resp_read.specs.Reading.{ReaderState, Waiting, Stopped, Spent, Broken, reading, Reads}
 
@@ -34,9 +34,10 @@ abbrev pub bad_byte : Cursor → BadByte
 bad_byte c = record { place = within_u64 (c.start + c.waiting); kind = kind_in c.parser.phase }
 
 -- the cursor stands behind this text, which began at `begun`, and these are the forms and commands of it
-pub record StandsBehind (text : List ℕ) (begun : ℕ) (c : Cursor) (commands : List Command) (forms : List Form) : Type 0 where
+pub record StandsBehind (text : List ℕ) (begun : ℕ) (c : Cursor) (commands : List Command) (forms : List Form)
+    : Type 0 where
   pub reads : Reads text c.parser forms
-  pub start_is : c.start ≡ within_u64 (begun + length (row_text forms))
+  pub start_is : c.start ≡ within_u64 (begun + length (sequence_text forms))
   pub waiting_is : c.waiting ≡ within_u64 (length (kept c.parser))
   pub commands_are : commands ≡ commands_from begun forms
 

@@ -64,7 +64,8 @@ impl Cursor {
         byte: u8,
         commands: &mut Commands,
     ) -> Result<Option<BadByte>, NoMemory>
-        ensures good { IfOk result (λ bad. IfNone bad ((is_dead (next self.old.parser byte).phase ≡ false) × (self.new ≡ moved self.old byte)
+        ensures good { IfOk result (λ bad. IfNone bad ((is_dead (next self.old.parser byte).phase ≡ false)
+            × (self.new ≡ moved self.old byte)
             × (commands.new ≡ commands.old ++ given_at self.old.start (words_of (out self.old.parser byte))))) }
         ensures bad { IfOk result (λ bad. IfSome bad (λ x. (is_dead (next self.old.parser byte).phase ≡ true)
             × (x ≡ bad_byte self.old) × (commands.new ≡ commands.old))) }
@@ -84,7 +85,10 @@ impl Cursor {
 
     // Counts a byte, which ends a request or does not.
     fn count(&mut self, ends: bool)
-        ensures { self.new ≡ record self.old { start = start_after ends self.old.start self.old.waiting; waiting = waiting_after ends self.old.waiting } }
+        ensures { self.new ≡ record self.old {
+          start = start_after ends self.old.start self.old.waiting;
+          waiting = waiting_after ends self.old.waiting;
+        } }
     {
         self.waiting = self.waiting.saturating_add(1);
         if ends {

@@ -8,8 +8,6 @@ mod parser;
 mod phase;
 mod reader;
 mod stops;
-#[cfg(test)]
-mod tests;
 
 pub use command::{Command, Commands, MAX_COMMAND_BYTES, MAX_WORD_BYTES, MAX_WORDS};
 pub use laws::reading_is_the_grammar;

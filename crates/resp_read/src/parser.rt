@@ -49,7 +49,8 @@ impl Parser {
 
     // Takes the byte behind the CR of a word, behind which so many more come.
     fn end_word(&mut self, alloc: Global, behind: u64, byte: u8) -> Result<Option<Words>, NoMemory>
-        ensures state { OnOk result (self.new ≡ record (next_in (Phase.WordLf behind) self.old byte) { phase = self.old.phase }) }
+        ensures state { OnOk result
+            (self.new ≡ record (next_in (Phase.WordLf behind) self.old byte) { phase = self.old.phase }) }
         ensures command { IfOk result (λ command. command ≡ words_of (out_in (Phase.WordLf behind) self.old byte)) }
     {
         if byte != b'\n' {

@@ -72,7 +72,7 @@ pub enum Phase {
     WordCr(u64),
     /// The LF behind a word, behind which so many more come.
     WordLf(u64),
-    /// Nothing: the bytes begin no row of requests.
+    /// Nothing: the bytes begin no sequence of requests.
     Dead,
 }
 

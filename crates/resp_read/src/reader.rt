@@ -1,7 +1,7 @@
 ghost use Rattle.std.specs.Prelude.{◌≡◌, List, ℕ, [], ◌++◌, length, Ok, Err, IfOk, IfErr};
 ghost use Rattle.resp_read.specs.declared.stops.FeedStop.{FeedStop};
 ghost use Rattle.resp_read.specs.Frames.{within_u64};
-ghost use Rattle.resp_read.specs.Reading.{Waiting, Stopped, Spent, answer, after, unfinished, Stops, Took, RefusedBy, StandsFor, Goes, StopsAt};
+ghost use Rattle.resp_read.specs.Reading.{Waiting, Stopped, Spent, answer, after, unfinished, Stops, Took, RefusedBy, HasRead, Goes, StopsAt};
 
 use crate::cursor::Cursor;
 use crate::{Commands, FeedStop};
@@ -45,7 +45,7 @@ impl Reader {
     /// A reader before the first byte.
     pub fn new(alloc: Global) -> Reader
         ensures state { result ≡ Waiting 0 [] }
-        ensures stands { StandsFor result [] }
+        ensures stands { HasRead result [] }
     {
         Reader {
             alloc,
@@ -60,19 +60,24 @@ impl Reader {
     ///
     /// # Errors
     ///
-    /// `Bad` where the bytes so far begin no row of requests any longer, however they go on, and `Failed` in each
+    /// `Bad` where the bytes so far begin no sequence of requests any longer, however they go on, and `Failed` in each
     /// call after that. `NoMemory` in each call from the first one in which memory ran out.
     pub fn feed(&mut self, piece: &[u8]) -> Result<Commands, FeedStop>
-        ensures ok { IfOk result (λ commands. (answer self.old piece.now ≡ Ok commands) × (self.new ≡ after self.old piece.now)) }
+        ensures ok { IfOk result (λ commands. (answer self.old piece.now ≡ Ok commands)
+            × (self.new ≡ after self.old piece.now)) }
         ensures err { IfErr result (λ stop. Stops self.old piece.now stop self.new) }
         // In the words of a caller that minds no places.
-        ensures took { (start : ℕ) (rest : List ℕ) → self.old ≡ Waiting start rest → IfOk result (λ commands. Took rest piece.now commands self.new) }
-        ensures refused { (start : ℕ) (rest : List ℕ) → self.old ≡ Waiting start rest → IfErr result (λ stop. RefusedBy rest piece.now stop) }
+        ensures took { (start : ℕ) (rest : List ℕ) → self.old ≡ Waiting start rest
+            → IfOk result (λ commands. Took rest piece.now commands self.new) }
+        ensures refused { (start : ℕ) (rest : List ℕ) → self.old ≡ Waiting start rest
+            → IfErr result (λ stop. RefusedBy rest piece.now stop) }
         ensures stopped { self.old ≡ Stopped → result ≡ Err FeedStop.Failed }
         ensures spent { self.old ≡ Spent → result ≡ Err FeedStop.NoMemory }
         // For all bytes of the client so far.
-        ensures goes { (text : List ℕ) → StandsFor self.old text → IfOk result (λ commands. Goes text piece.now commands self.new) }
-        ensures stops { (text : List ℕ) → StandsFor self.old text → IfErr result (λ stop. StopsAt text piece.now stop self.new) }
+        ensures goes { (text : List ℕ) → HasRead self.old text
+            → IfOk result (λ commands. Goes text piece.now commands self.new) }
+        ensures stops { (text : List ℕ) → HasRead self.old text
+            → IfErr result (λ stop. StopsAt text piece.now stop self.new) }
     {
         match self.fate {
             Fate::Open => {}

@@ -19,9 +19,9 @@ pub enum BadFrame {
 /// Why a reader gives no commands, or none any more.
 #[derive(Debug, Drop)]
 pub enum FeedStop {
-    /// The bytes begin no row of requests any longer. `place` is that of the first byte at which that is so, among all
-    /// bytes of the client, counted from 0; a place past the last `u64` is given as that one. `before` are the commands
-    /// that were whole before it and that no earlier call gave.
+    /// The bytes begin no sequence of requests any longer. `place` is that of the first byte at which that is so, among
+    /// all bytes of the client, counted from 0; a place past the last `u64` is given as that one. `before` are the
+    /// commands that were whole before it and that no earlier call gave.
     Bad {
         before: Commands,
         place: u64,

@@ -6,12 +6,13 @@ ghost use Rattle.resp_reply.specs.Replies.{line, in_one_line, bulk_text, reply_t
 
 /// The text of each form of reply. An array's is its count and then the texts of its items, whatever they are.
 pub fn texts_of_forms()
-    ensures status { (text : List ℕ) → reply_text (Reply.Status text) ≡ line 43 (in_one_line text) }
-    ensures fault { (text : List ℕ) → reply_text (Reply.Fault text) ≡ line 45 (in_one_line text) }
-    ensures int { (n : ℤ) → reply_text (Reply.Int n) ≡ line 58 (signed_decimal n) }
+    ensures status { (text : List ℕ) → reply_text (Reply.Status text) ≡ line (codes "+") (in_one_line text) }
+    ensures fault { (text : List ℕ) → reply_text (Reply.Fault text) ≡ line (codes "-") (in_one_line text) }
+    ensures int { (n : ℤ) → reply_text (Reply.Int n) ≡ line (codes ":") (signed_decimal n) }
     ensures bulk { (bytes : List ℕ) → reply_text (Reply.Bulk bytes) ≡ bulk_text bytes }
     ensures no_bulk { reply_text Reply.NullBulk ≡ codes "$-1\r\n" }
-    ensures array { (items : List Reply) → reply_text (roll-Reply (Reply-F.Array items)) ≡ line 42 (decimal (length items)) ++ flat_map reply_text items }
+    ensures array { (items : List Reply) → reply_text (roll-Reply (Reply-F.Array items))
+        ≡ line (codes "*") (decimal (length items)) ++ flat_map reply_text items }
     ensures no_array { reply_text Reply.NullArray ≡ codes "*-1\r\n" }
 {}
 

@@ -12,7 +12,8 @@ use Rattle.std.proofs.lemmas.Fmt.{digits_decimal}
 use Rattle.rs_base.specs.Decimals.{NoDigitFirst}
 
 digits_of_decimal : (n : ℕ) → n < 2 ^ 64 → all_ascii_digits (decimal n) ≡ true
-digits_of_decimal n small = digits_decimal (numerals_by_value (λ ds. all_ascii_digits ds ≡ true) tells_all_ascii_digits) n small
+digits_of_decimal n small =
+    digits_decimal (numerals_by_value (λ ds. all_ascii_digits ds ≡ true) tells_all_ascii_digits) n small
 
 abbrev is_other : ℕ → Bool
 is_other b = not (is_ascii_digit b)
@@ -22,7 +23,8 @@ both true b e = (refl, e)
 both false b e = absurd (cc)
 
 -- the digits end at the first byte that is none
-place-digits : (ds rest : List ℕ) → all_ascii_digits ds ≡ true → NoDigitFirst rest → position_or_len is_other (ds ++ rest) ≡ length ds
+place-digits : (ds rest : List ℕ) → all_ascii_digits ds ≡ true → NoDigitFirst rest
+    → position_or_len is_other (ds ++ rest) ≡ length ds
 place-digits [] [] all stop = refl
 place-digits [] (end ∷ rest) all stop = rw stop
 place-digits (d ∷ ds) rest all stop =
@@ -42,21 +44,28 @@ pub NoDigitFirst-drop : (text : List ℕ) → NoDigitFirst (drop (position_or_le
 NoDigitFirst-drop [] = tt
 NoDigitFirst-drop (b ∷ text) = by_test (is_ascii_digit b) refl (NoDigitFirst-drop text)
   where
-    by_test : (t : Bool) → is_ascii_digit b ≡ t → NoDigitFirst (drop (position_or_len is_other text) text) → NoDigitFirst (drop (position_or_len is_other (b ∷ text)) (b ∷ text))
-    by_test true digit after = rw digit (subst NoDigitFirst (sym (drop-next (position_or_len is_other text) b text)) after)
+    by_test : (t : Bool) → is_ascii_digit b ≡ t → NoDigitFirst (drop (position_or_len is_other text) text)
+        → NoDigitFirst (drop (position_or_len is_other (b ∷ text)) (b ∷ text))
+    by_test true digit after =
+        rw digit (subst NoDigitFirst (sym (drop-next (position_or_len is_other text) b text)) after)
     by_test false other after = rw other other
 
 -- a text that begins with a number's digits is cut right behind them
-pub cut-decimal : (n : ℕ) (rest text front back : List ℕ) (place : Option ℕ) (at : ℕ) → n < 2 ^ 64 → NoDigitFirst rest → text ≡ decimal n ++ rest
-    → place ≡ position is_other text → at ≡ unwrap_or place (length text) → front ≡ take at text → back ≡ drop at text → (front ≡ decimal n) × (back ≡ rest)
+pub cut-decimal : (n : ℕ) (rest text front back : List ℕ) (place : Option ℕ) (at : ℕ) → n < 2 ^ 64 → NoDigitFirst rest
+    → text ≡ decimal n ++ rest
+    → place ≡ position is_other text → at ≡ unwrap_or place (length text) → front ≡ take at text → back ≡ drop at text
+    → (front ≡ decimal n) × (back ≡ rest)
 cut-decimal n rest text front back place at small stop text_is place_found at_is front_is back_is =
     let here : at ≡ length (decimal n) =
-    at_is ∙ ap (λ p. unwrap_or p (length text)) place_found ∙ place_is text ∙ ap (position_or_len is_other) text_is ∙ place-digits (decimal n) rest (digits_of_decimal n small) stop in (
+    at_is ∙ ap (λ p. unwrap_or p (length text)) place_found ∙ place_is text ∙ ap (position_or_len is_other) text_is
+    ∙ place-digits (decimal n) rest (digits_of_decimal n small) stop in (
       front_is ∙ ap (take at) text_is ∙ ap (λ i. take i (decimal n ++ rest)) here ∙ take-append_seam (decimal n) rest,
       back_is ∙ ap (drop at) text_is ∙ ap (λ i. drop i (decimal n ++ rest)) here ∙ drop-append_seam (decimal n) rest,
     )
 
-pub cut_off : (text back : List ℕ) (place : Option ℕ) (at : ℕ) → place ≡ position is_other text → at ≡ unwrap_or place (length text) → back ≡ drop at text → NoDigitFirst back
+pub cut_off : (text back : List ℕ) (place : Option ℕ) (at : ℕ) → place ≡ position is_other text
+    → at ≡ unwrap_or place (length text) → back ≡ drop at text → NoDigitFirst back
 cut_off text back place at place_found at_is back_is =
-    let here : at ≡ position_or_len is_other text = at_is ∙ ap (λ p. unwrap_or p (length text)) place_found ∙ place_is text in
+    let here : at ≡ position_or_len is_other text =
+    at_is ∙ ap (λ p. unwrap_or p (length text)) place_found ∙ place_is text in
     rw (back_is, here) (NoDigitFirst-drop text)

@@ -4,7 +4,8 @@ use Rattle.rs_base.specs.Escape.{is_plain}
 
 -- what a hexadecimal digit in lower case stands for
 abbrev pub hex_value : ℕ → Option ℕ
-hex_value c = if nat_le 48 c && nat_le c 57 then Some (c - 48) else (if nat_le 97 c && nat_le c 102 then Some (c - 87) else None)
+hex_value c = if nat_le 48 c && nat_le c 57 then Some (c - 48)
+    else (if nat_le 97 c && nat_le c 102 then Some (c - 87) else None)
 
 -- a byte that is spelled by its two digits
 abbrev pub needs_digits : ℕ → Bool
@@ -12,7 +13,9 @@ needs_digits b = not (is_plain b) && (not (b == 92) && (not (b == 32) && (not (b
 
 -- the byte that two digits spell
 abbrev pub digits_value : ℕ → ℕ → Option ℕ
-digits_value high low = option_and_then (λ h. option_and_then (λ l. if needs_digits (16 * h + l) then Some (16 * h + l) else None) (hex_value low)) (hex_value high)
+digits_value high low =
+    option_and_then (λ h. option_and_then (λ l. if needs_digits (16 * h + l) then Some (16 * h + l) else None)
+    (hex_value low)) (hex_value high)
 
 -- what follows `\x`: the byte, and the text after it
 abbrev pub digits_at : List ℕ → Option (ℕ × List ℕ)

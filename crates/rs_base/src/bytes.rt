@@ -68,6 +68,7 @@ impl Bytes {
         ensures value { result.now ≡ self.now }
         ensures bytes { AreBytes self.now }
     {
+        // The prover knows the items of a named slice to be bytes.
         let bytes = self.bytes.as_slice();
         bytes
     }
@@ -168,61 +169,5 @@ impl Clone for Bytes {
         Ok(Bytes {
             bytes: self.bytes.clone()?,
         })
-    }
-}
-
-#[cfg(test)]
-mod tests {
-    use super::*;
-    use std::test::Fail;
-
-    // A copy of four bytes that were put together, and those bytes with a fifth.
-    fn made(alloc: Global) -> Result<(Bytes, Bytes), NoMemory> {
-        let mut bytes = Bytes::new(alloc);
-        bytes.push(0)?;
-        bytes.append(b"ab\xff")?;
-        let copy = bytes.clone()?;
-        bytes.push(b'c')?;
-        Ok((copy, Bytes::from_vec(bytes.into_vec())))
-    }
-
-    // Strings, and how the first compares with the second.
-    static PAIRS: [(&[u8], &[u8], Ordering); 6] = [
-        (b"", b"", Ordering::Equal),
-        (b"", b"a", Ordering::Less),
-        (b"ab", b"a", Ordering::Greater),
-        (b"ab", b"b", Ordering::Less),
-        (b"a\xff", b"a\x00", Ordering::Greater),
-        (b"a\x00", b"a\x00", Ordering::Equal),
-    ];
-
-    fn is_ordered(left: &Bytes, right: &Bytes, order: Ordering) -> bool {
-        if left.cmp(right) != order || (left < right) != (order == Ordering::Less) {
-            return false;
-        }
-        (left == right) == (order == Ordering::Equal)
-    }
-
-    // How many pairs from the first on compare as told.
-    fn agreeing(alloc: Global, rows: &[(&[u8], &[u8], Ordering)]) -> Result<usize, NoMemory> {
-        for (at, (left, right, order)) in rows.iter().enumerate() {
-            let left = Bytes::from_slice(alloc, left)?;
-            let right = Bytes::from_slice(alloc, right)?;
-            if !is_ordered(&left, &right, *order) {
-                return Ok(at);
-            }
-        }
-        Ok(rows.len())
-    }
-
-    #[test]
-    fn changes_and_compares(rt: HostRuntime) -> Result<(), Fail> {
-        let (copy, bytes) = made(rt.alloc())?;
-        assert!(rt; copy.as_slice() == b"\x00ab\xff".as_slice());
-        assert!(rt; bytes.as_slice() == b"\x00ab\xffc".as_slice());
-        assert_eq!(rt; bytes.len(), 5);
-        assert!(rt; Bytes::new(rt.alloc()).is_empty());
-        assert_eq!(rt; agreeing(rt.alloc(), &PAIRS)?, PAIRS.len());
-        Ok(())
     }
 }

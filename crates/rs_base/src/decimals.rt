@@ -14,7 +14,8 @@ pub fn write_decimal(n: u64, out: &mut Bytes) -> Result<(), NoMemory>
     Ok(())
 }
 
-/// The number below 2^64 that `text` writes in digits, without sign or leading zero. `None` exactly where there is none.
+/// The number below 2^64 that `text` writes in digits, without sign or leading zero. `None` exactly where there is
+/// none.
 pub fn parse_decimal(text: &[u8]) -> Option<u64>
     ensures found { IfSome result (λ n. text.now ≡ decimal n) }
     ensures only { (n : ℕ) → n < 2 ^ 64 → text.now ≡ decimal n → result ≡ Some n }
@@ -54,83 +55,4 @@ fn first_non_digit(text: &[u8]) -> Option<usize>
     ensures within { IfSome result (λ i. i < length text.now) }
 {
     text.iter().position(|byte| !byte.is_ascii_digit())
-}
-
-#[cfg(test)]
-mod tests {
-    use super::*;
-    use std::alloc::Global;
-    use std::test::Fail;
-
-    // Texts, and the number that each writes as a whole.
-    static WHOLE: [(&[u8], Option<u64>); 13] = [
-        (b"0", Some(0)),
-        (b"7", Some(7)),
-        (b"1000", Some(1000)),
-        (b"18446744073709551615", Some(u64::MAX)),
-        (b"", None),
-        (b"00", None),
-        (b"01", None),
-        (b"+1", None),
-        (b"-1", None),
-        (b"18446744073709551616", None),
-        (b"1a", None),
-        (b" 1", None),
-        (b"\xff", None),
-    ];
-
-    // Whether a number is written as that text, behind what was there before.
-    fn is_written(alloc: Global, n: u64, text: &[u8]) -> Result<bool, NoMemory> {
-        let mut out = Bytes::from_slice(alloc, b"*")?;
-        write_decimal(n, &mut out)?;
-        Ok(out.as_slice().strip_prefix(b"*") == Some(text))
-    }
-
-    fn agrees(alloc: Global, text: &[u8], want: Option<u64>) -> Result<bool, NoMemory> {
-        match parse_decimal(text) {
-            Some(n) => Ok(want == Some(n) && is_written(alloc, n, text)?),
-            None => Ok(want.is_none()),
-        }
-    }
-
-    // How many texts from the first on are read, and written again, as told.
-    fn agreeing(alloc: Global, rows: &[(&[u8], Option<u64>)]) -> Result<usize, NoMemory> {
-        for (at, (text, want)) in rows.iter().enumerate() {
-            if !agrees(alloc, text, *want)? {
-                return Ok(at);
-            }
-        }
-        Ok(rows.len())
-    }
-
-    // A text, and the number at its front with what follows.
-    type Front = (&'static [u8], Option<(u64, &'static [u8])>);
-
-    static FRONTS: [Front; 9] = [
-        (b"12 rest", Some((12, b" rest"))),
-        (b"0\r\n", Some((0, b"\r\n"))),
-        (b"42", Some((42, b""))),
-        (b"1-2", Some((1, b"-2"))),
-        (b"", None),
-        (b"x1", None),
-        (b"-1 ", None),
-        (b"01 ", None),
-        (b"18446744073709551616 ", None),
-    ];
-
-    fn fronts(rows: &[Front]) -> usize {
-        for (at, (text, want)) in rows.iter().enumerate() {
-            if decimal_prefix(text) != *want {
-                return at;
-            }
-        }
-        rows.len()
-    }
-
-    #[test]
-    fn writes_and_reads(rt: HostRuntime) -> Result<(), Fail> {
-        assert_eq!(rt; agreeing(rt.alloc(), &WHOLE)?, WHOLE.len());
-        assert_eq!(rt; fronts(&FRONTS), FRONTS.len());
-        Ok(())
-    }
 }

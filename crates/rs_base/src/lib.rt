@@ -4,13 +4,13 @@
 
 mod bytes;
 mod decimals;
-mod escaping;
+mod escapes;
 mod memory;
 mod sequence;
 
 pub use bytes::Bytes;
 pub use decimals::{decimal_prefix, parse_decimal, write_decimal};
-pub use escaping::{escape, unescape};
+pub use escapes::{escape, unescape};
 pub use memory::NoMemory;
 pub use sequence::Seq;
 

@@ -17,15 +17,3 @@ impl<T: Drop> From<AllocFailed<T>> for NoMemory {
         NoMemory
     }
 }
-
-#[cfg(test)]
-mod tests {
-    use super::*;
-    use std::test::Fail;
-
-    #[test]
-    fn tells_the_reason(rt: HostRuntime) -> Result<(), Fail> {
-        assert_eq!(rt; NoMemory.to_string(rt.alloc())?.as_str(), "out of memory");
-        Ok(())
-    }
-}

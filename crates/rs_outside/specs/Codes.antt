@@ -1,7 +1,9 @@
 -- The exit codes of the program.
 use Rattle.std.specs.Prelude.{ℕ}
 use Rattle.rs_outside.specs.declared.status.Status.{Status}
-use Rattle.rs_outside.specs.declared.status.Status.TheVariants.{Done, Usage, BadInput, BadLog, SourceFault, SinkFault, LogFault, WireFault, TurnsSpent, NoMemory, InputTooLong}
+use Rattle.rs_outside.specs.declared.status.Status.TheVariants.{Done, Usage, BadInput, BadLog}
+use Rattle.rs_outside.specs.declared.status.Status.TheVariants.{SourceFault, SinkFault, LogFault, WireFault}
+use Rattle.rs_outside.specs.declared.status.Status.TheVariants.{TurnsSpent, NoMemory, InputTooLong}
 
 abbrev pub code_of : Status → ℕ
 code_of Done = 0

@@ -1,6 +1,6 @@
 pub use Rattle.rs_base.specs.Bytes
 pub mod Faults
-pub mod Numbering
+pub mod Calls
 pub mod Known
 pub mod Steps
 pub mod Codes

@@ -1,4 +1,4 @@
-pub mod DigitRows
+pub mod DigitTexts
 pub mod Caps
 pub mod Division
 pub mod Heads

@@ -1,4 +1,4 @@
--- Where a row of digits ends, and numbers that are looked for.
+-- Where digits end, and numbers that are looked for.
 use Rattle.std.specs.Prelude.{◌≢◌, ℕ, ◌^◌, ◌≤◌, List, [], ◌∷◌, Option, MatchOption}
 use Rattle.std.specs.Char.{digit_value}
 

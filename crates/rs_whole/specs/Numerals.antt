@@ -64,14 +64,17 @@ numeral_text (Numeral.by_sixteens digits) = 48 ∷ 120 ∷ digits
 
 -- a digit at least, before the point or behind it
 abbrev pub IsProper : Numeral → Type 0
-IsProper (Numeral.by_tens whole fraction exponent) = AllDigits 10 whole × AllDigits 10 (fraction_digits fraction) × (0 < length (whole ++ fraction_digits fraction)) × IsExponent exponent
+IsProper (Numeral.by_tens whole fraction exponent) =
+    AllDigits 10 whole × AllDigits 10 (fraction_digits fraction)
+    × (0 < length (whole ++ fraction_digits fraction)) × IsExponent exponent
 IsProper (Numeral.by_sixteens digits) = AreDigits 16 digits
 
 -- the numeral stands for n: the number of all its digits, less as many places as stand behind the point, and as the
 -- exponent says
 abbrev pub IsValue : Numeral → ℕ → Type 0
 IsValue (Numeral.by_tens whole fraction exponent) n =
-    n * 10 ^ (length (fraction_digits fraction) + falls exponent) ≡ digits_value 10 (whole ++ fraction_digits fraction) * 10 ^ rises exponent
+    n * 10 ^ (length (fraction_digits fraction) + falls exponent)
+    ≡ digits_value 10 (whole ++ fraction_digits fraction) * 10 ^ rises exponent
 IsValue (Numeral.by_sixteens digits) n = n ≡ digits_value 16 digits
 
 -- the numeral stands for z

@@ -5,8 +5,6 @@ mod digits;
 mod integers;
 mod numerals;
 mod shifts;
-#[cfg(test)]
-mod tests;
 mod whole;
 
 pub use integers::integer;

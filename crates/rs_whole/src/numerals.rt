@@ -36,7 +36,8 @@ fn by_sixteens(text: &[u8]) -> Option<Result<Whole, NotWhole>>
 fn by_tens(text: &[u8]) -> Option<Result<Whole, NotWhole>>
     ensures found { OnSome result ((numeral : Numeral) × IsProper numeral × (text.now ≡ numeral_text numeral)) }
     ensures only { (whole : List ℕ) (fraction : Option (List ℕ)) (exponent : Exponent)
-        → IsProper (Numeral.by_tens whole fraction exponent) → text.now ≡ numeral_text (Numeral.by_tens whole fraction exponent)
+        → IsProper (Numeral.by_tens whole fraction exponent)
+        → text.now ≡ numeral_text (Numeral.by_tens whole fraction exponent)
         → IsSomeAnd result (Computes (StandsFor (Numeral.by_tens whole fraction exponent))) }
 {
     let (whole, rest) = split_digits(10, text);
@@ -85,7 +86,8 @@ pub fn numeral(text: &[u8]) -> Option<Result<Whole, NotWhole>>
 fn signed(text: &[u8]) -> Option<Result<Whole, NotWhole>>
     ensures found { OnSome result ((sign : Sign) × (numeral : Numeral) × IsProper numeral
         × (text.now ≡ sign_text sign ++ numeral_text numeral)) }
-    ensures only { (sign : Sign) (numeral : Numeral) → IsProper numeral → text.now ≡ sign_text sign ++ numeral_text numeral
+    ensures only { (sign : Sign) (numeral : Numeral) → IsProper numeral
+        → text.now ≡ sign_text sign ++ numeral_text numeral
         → IsSomeAnd result (Computes (SignedStandsFor sign numeral)) }
 {
     match text.split_first() {

@@ -15,9 +15,11 @@ pub enum Shift {
     Falls(u64),
 }
 
-/// The shift of the exponent that `text` is; the empty text is one that shifts by nothing. `None` exactly where it is none.
+/// The shift of the exponent that `text` is; the empty text is one that shifts by nothing. `None` exactly where it is
+/// none.
 pub fn read_shift(text: &[u8]) -> Option<Shift>
-    ensures found { IfSome result (λ s. (exponent : Exponent) × IsExponent exponent × (text.now ≡ exponent_text exponent)) }
+    ensures found { IfSome result (λ s. (exponent : Exponent) × IsExponent exponent
+        × (text.now ≡ exponent_text exponent)) }
     ensures only { (exponent : Exponent) → IsExponent exponent → text.now ≡ exponent_text exponent
         → result ≡ Some (shift_of exponent) }
 {

@@ -2,6 +2,7 @@
 use Rattle.std.proofs.Common.{◌≡◌, ◌⊎◌, inl, inr, ℕ, List, [], ◌∷◌, ◌++◌, Option, length, refl, sym, ap, ◌∙◌, append_assoc, append-nil}
 use Rattle.std.proofs.lemmas.Grind.{flat_map-append}
 use Rattle.std.proofs.lemmas.List.{append_cancel_left}
+use Rattle.rs_base.proofs.Lists.{seam}
 use Rattle.resp_read.specs.Frames.{within_u64}
 use Rattle.rs_outside.specs.Known.{known_then}
 use Rattle.rs_outside.specs.declared.turn.Turn.{Turn}
@@ -46,17 +47,6 @@ log_grown whole others = grown log_bytes log_piece log-push whole others
 
 lines_grown : (whole others : List Turn) → row_lines (outs (whole ++ others)) ≡ row_lines (outs whole) ++ behind lines_piece whole others
 lines_grown whole others = grown (λ t. row_lines (outs t)) lines_piece lines-push whole others
-
--- of two cuts of one text, the one stands behind the other
-seam : (a b c d : List ℕ) → a ++ b ≡ c ++ d → ((m : List ℕ) × (a ≡ c ++ m) × (d ≡ m ++ b)) ⊎ ((m : List ℕ) × (c ≡ a ++ m) × (b ≡ m ++ d))
-seam [] b c d e = inr (c, refl, e)
-seam (x ∷ a) b [] d e = inl (x ∷ a, refl, sym e)
-seam (x ∷ a) b (y ∷ c) d e = seam_more x y a b c d (cc) (seam a b c d (cc))
-  where
-    seam_more : (x y : ℕ) (a b c d : List ℕ) → x ≡ y → ((m : List ℕ) × (a ≡ c ++ m) × (d ≡ m ++ b)) ⊎ ((m : List ℕ) × (c ≡ a ++ m) × (b ≡ m ++ d))
-        → ((m : List ℕ) × (x ∷ a ≡ (y ∷ c) ++ m) × (d ≡ m ++ b)) ⊎ ((m : List ℕ) × (y ∷ c ≡ (x ∷ a) ++ m) × (b ≡ m ++ d))
-    seam_more x y a b c d same (inl h) = let first = h.1 in inl (h.0, cc, h.2)
-    seam_more x y a b c d same (inr h) = let first = h.1 in inr (h.0, cc, h.2)
 
 -- the bytes are those of some of the turns behind these, and a prefix of the next turn's
 pub record CutsBehind (whole others : List Turn) (bytes : List ℕ) : Type 0 where

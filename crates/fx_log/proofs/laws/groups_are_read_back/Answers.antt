@@ -4,9 +4,11 @@ use Rattle.fx_log.proofs.laws.groups_are_read_back.Goals as goal
 
 pub returns-clause-whole : goal.returns-clause-whole
 returns-clause-whole c =
-    whole-reads c.reading_is_the_grammar.ensures.one_row c.reading_is_the_grammar.ensures.not_both c.reading_is_the_grammar.ensures.words
+    whole-reads c.reading_is_the_grammar.ensures.one_sequence c.reading_is_the_grammar.ensures.not_both
+    c.reading_is_the_grammar.ensures.words
 
 pub returns-clause-cut : goal.returns-clause-cut
 returns-clause-cut c =
-    cut-reads c.reading_is_the_grammar.ensures.one_row c.reading_is_the_grammar.ensures.not_both c.reading_is_the_grammar.ensures.reads
+    cut-reads c.reading_is_the_grammar.ensures.one_sequence c.reading_is_the_grammar.ensures.not_both
+    c.reading_is_the_grammar.ensures.reads
     (unfinished_goes_on c.reading_is_the_grammar.ensures.goes_on) c.reading_is_the_grammar.ensures.words

@@ -8,14 +8,15 @@ pub returns-clause-reads : goal.returns-clause-reads
 returns-clause-reads c = log-reading-is c.reading_is_the_grammar.ensures.reads
 
 pub returns-clause-one_list : goal.returns-clause-one_list
-returns-clause-one_list c = one-groups c.reading_is_the_grammar.ensures.one_row
+returns-clause-one_list c = one-groups c.reading_is_the_grammar.ensures.one_sequence
 
 pub returns-clause-one_bad : goal.returns-clause-one_bad
-returns-clause-one_bad c = one-bad c.reading_is_the_grammar.ensures.one_row c.reading_is_the_grammar.ensures.one_bad
+returns-clause-one_bad c = one-bad c.reading_is_the_grammar.ensures.one_sequence c.reading_is_the_grammar.ensures.one_bad
 
 pub returns-clause-not_both : goal.returns-clause-not_both
-returns-clause-not_both c = log-good c.reading_is_the_grammar.ensures.one_row c.reading_is_the_grammar.ensures.not_both
+returns-clause-not_both c = log-good c.reading_is_the_grammar.ensures.one_sequence c.reading_is_the_grammar.ensures.not_both
 
 pub returns-clause-stays : goal.returns-clause-stays
 returns-clause-stays c = λ text more place kind bad.
-    (bad-stays c.reading_is_the_grammar.ensures.one_row c.reading_is_the_grammar.ensures.reads (unfinished_goes_on c.reading_is_the_grammar.ensures.goes_on) text more place kind bad).0
+    (bad-stays c.reading_is_the_grammar.ensures.one_sequence c.reading_is_the_grammar.ensures.reads
+    (unfinished_goes_on c.reading_is_the_grammar.ensures.goes_on) text more place kind bad).0

@@ -12,10 +12,10 @@ on-err (Err e) P h = h
 pub returns-in_err-apply-clause-err : goal.returns-in_err-apply-clause-err
 returns-in_err-apply-clause-err c =
     let partly : IsPartlyApplied c.args.space.now c.args.group.now.records c.apply.new.space = record {
-      front = take c.loop-effect.effect-index c.args.group.now.records;
-      back = drop c.loop-effect.effect-index c.args.group.now.records;
-      records_are = sym (take-append-drop c.loop-effect.effect-index c.args.group.now.records);
-      new_is = c.in_err-apply.ensures.err ∙ c.loop-effect.invariant
-          ∙ ap (λ rs. applied c.args.space.now (take c.loop-effect.effect-index rs)) c.as_slice-effect-items.ensures;
+      front = take c.loop-record.record-index c.args.group.now.records;
+      back = drop c.loop-record.record-index c.args.group.now.records;
+      records_are = sym (take-append-drop c.loop-record.record-index c.args.group.now.records);
+      new_is = c.in_err-apply.ensures.err ∙ c.loop-record.invariant
+          ∙ ap (λ rs. applied c.args.space.now (take c.loop-record.record-index rs)) c.as_slice-record-items.ensures;
     } in
     on-err c.from_residual.result _ partly

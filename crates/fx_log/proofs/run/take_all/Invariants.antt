@@ -6,4 +6,5 @@ use Rattle.fx_log.proofs.run.take_all.Given as goal
 abbrev pub invariant-loop-command : goal.invariant-loop-command
 invariant-loop-command l =
     (goal.iterator-loop-command).can_next l.command-iterator × (goal.iterator-loop-command).is_finite l.command-iterator
-    × (read_from l.groups l.opened (into_iter_items l.command-iterator) ≡ read_from l.fn.groups l.fn.opened l.fn.commands)
+    × (read_from l.groups l.opened (into_iter_items l.command-iterator)
+    ≡ read_from l.fn.groups l.fn.opened l.fn.commands)

@@ -2,7 +2,8 @@ use Rattle.std.proofs.Common.{Some, None}
 use Rattle.ks_space.specs.Store.{deadline_at}
 use Rattle.fx_record.specs.Records.{string_entry}
 use Rattle.fx_record.proofs.Stores.{get-empty}
-use Rattle.fx_record.proofs.RecordLaws.{inserted, removed, expired, moves, renamed_itself, with_deadline-absent, renamed-absent}
+use Rattle.fx_record.proofs.RecordLaws.{inserted, removed, expired, moves, renamed_itself, with_deadline-absent}
+use Rattle.fx_record.proofs.RecordLaws.{renamed-absent}
 use Rattle.fx_record.proofs.laws.records_change_their_key_alone.Goals as goal
 
 pub returns-clause-set : goal.returns-clause-set

@@ -5,4 +5,5 @@ use Rattle.fx_record.proofs.record.deadline_of.Goals as goal
 
 pub returns-then-deadline-le-MAX_DEADLINE : goal.returns-then-deadline-le-MAX_DEADLINE
 returns-then-deadline-le-MAX_DEADLINE c =
-    sym (ap deadline_of (sym c.as_slice.ensures.value ∙ c.in_ok-deadline.ensures.found) ∙ deadline_of-decimal c.in_ok-deadline.deadline (omega arith))
+    sym (ap deadline_of (sym c.as_slice.ensures.value ∙ c.in_ok-deadline.ensures.found)
+    ∙ deadline_of-decimal c.in_ok-deadline.deadline (omega arith))

@@ -10,8 +10,10 @@ loop-first-smaller c =
 
 pub loop-first-preserved : goal.loop-first-preserved
 loop-first-preserved c =
-    HasPieces-more c.args.quote c.args.text.now c.loop-first.rest.now c.in-Some.first.now c.in-Some.more.now c.in-Ok.next.now c.loop-first.invariant c.in-Some.ensures.cases.0 c.if-first-quote.false c.in-Ok.ensures
+    HasPieces-more c.args.quote c.args.text.now c.loop-first.rest.now c.in-Some.first.now c.in-Some.more.now
+    c.in-Ok.next.now c.loop-first.invariant c.in-Some.ensures.cases.0 c.if-first-quote.false c.in-Ok.ensures
 
 pub returns-in-Err : goal.returns-in-Err
 returns-in-Err c =
-    HasPieces-broken c.args.quote c.args.text.now c.loop-first.rest.now c.in-Some.first.now c.in-Some.more.now c.in-Err.kind c.loop-first.invariant c.in-Some.ensures.cases.0 c.in-Err.ensures
+    HasPieces-broken c.args.quote c.args.text.now c.loop-first.rest.now c.in-Some.first.now c.in-Some.more.now
+    c.in-Err.kind c.loop-first.invariant c.in-Some.ensures.cases.0 c.in-Err.ensures

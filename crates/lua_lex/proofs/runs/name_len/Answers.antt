@@ -3,4 +3,5 @@ use Rattle.lua_lex.proofs.Prefixes.{prefix_found}
 use Rattle.lua_lex.proofs.runs.name_len.Goals as goal
 
 pub returns-clause-value : goal.returns-clause-value
-returns-clause-value c = prefix_found is_name_byte c.args.text.now c.first_no_name.result c.unwrap_or.result c.first_no_name.ensures.value c.unwrap_or.ensures
+returns-clause-value c = prefix_found is_name_byte c.args.text.now c.first_no_name.result c.unwrap_or.result
+    c.first_no_name.ensures.value c.unwrap_or.ensures

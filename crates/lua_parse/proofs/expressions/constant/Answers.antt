@@ -10,7 +10,8 @@ use Rattle.lua_parse.specs.Nests.{begins_other}
 use Rattle.lua_parse.proofs.expressions.constant.Goals as goal
 
 -- neither a constant nor a word of another operand
-no_operand : (k : TokenKind) → (k ≡ kind.Nil → ⊥) → (k ≡ kind.False → ⊥) → (k ≡ kind.True → ⊥) → ((n : Whole) → k ≡ kind.Number n → ⊥)
+no_operand : (k : TokenKind) → (k ≡ kind.Nil → ⊥) → (k ≡ kind.False → ⊥) → (k ≡ kind.True → ⊥)
+    → ((n : Whole) → k ≡ kind.Number n → ⊥)
     → (k ≡ kind.Text → ⊥) → begins_other k ≡ false → begins_simple (Some k) ≡ false
 no_operand kind.Nil a b c d e other = absurd (a refl)
 no_operand kind.False a b c d e other = absurd (b refl)
@@ -25,19 +26,28 @@ no_operand kind.Dots a b c d e other = absurd (cc other)
 no_operand k a b c d e other = refl
 
 pub returns-in-Nil : goal.returns-in-Nil
-returns-in-Nil c = λ context. rw c.passed.ensures.value (rule.nil_value (record { seen = c.requires ∙ ap Some c.in-Nil.is; taken = c.passed.ensures.behind }))
+returns-in-Nil c = λ context. rw c.passed.ensures.value
+    (rule.nil_value (record { seen = c.requires ∙ ap Some c.in-Nil.is; taken = c.passed.ensures.behind }))
 
 pub returns-in-False : goal.returns-in-False
-returns-in-False c = λ context. rw c.passed-in-False.ensures.value (rule.false_value (record { seen = c.requires ∙ ap Some c.in-False.is; taken = c.passed-in-False.ensures.behind }))
+returns-in-False c = λ context. rw c.passed-in-False.ensures.value
+    (rule.false_value (record { seen = c.requires ∙ ap Some c.in-False.is; taken = c.passed-in-False.ensures.behind }))
 
 pub returns-in-True : goal.returns-in-True
-returns-in-True c = λ context. rw c.passed-in-True.ensures.value (rule.true_value (record { seen = c.requires ∙ ap Some c.in-True.is; taken = c.passed-in-True.ensures.behind }))
+returns-in-True c = λ context. rw c.passed-in-True.ensures.value
+    (rule.true_value (record { seen = c.requires ∙ ap Some c.in-True.is; taken = c.passed-in-True.ensures.behind }))
 
 pub returns-in-Number : goal.returns-in-Number
-returns-in-Number c = λ context. rw c.passed-in-Number.ensures.value (rule.number (record { seen = c.requires ∙ ap Some c.in-Number.is; taken = c.passed-in-Number.ensures.behind }))
+returns-in-Number c = λ context. rw c.passed-in-Number.ensures.value
+    (rule.number (record { seen = c.requires ∙ ap Some c.in-Number.is; taken = c.passed-in-Number.ensures.behind }))
 
 pub returns-in-Text : goal.returns-in-Text
-returns-in-Text c = λ context. rw c.passed-in-Text.ensures.value (rule.text (record { seen = c.requires ∙ ap Some c.in-Text.is; number_is = ap (λ (n : Name). n.text) c.name-text.ensures; taken = c.passed-in-Text.ensures.behind }))
+returns-in-Text c = λ context. rw c.passed-in-Text.ensures.value
+    (rule.text (record {
+      seen = c.requires ∙ ap Some c.in-Text.is;
+      number_is = ap (λ (n : Name). n.text) c.name-text.ensures;
+      taken = c.passed-in-Text.ensures.behind;
+    }))
 
 pub returns-in_default : goal.returns-in_default
 returns-in_default c = λ context. let no = c.in_default in

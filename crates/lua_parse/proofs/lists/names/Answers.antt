@@ -17,11 +17,13 @@ returns-in_err-take_name c = λ context. let p = err_from_is_err_and c.from_resi
 
 pub returns-then-not-eat : goal.returns-then-not-eat
 returns-then-not-eat c = λ context. let no = c.eat.ensures.unseen (cc) in
-    rw no.0 (ended_by (c.more.invariant context) (c.in_ok-exact.ensures ∙ c.in_ok-push.ensures.ok) (rule.one_name c.in_ok-take_name.ensures no.1))
+    rw no.0 (ended_by (c.more.invariant context) (c.in_ok-exact.ensures ∙ c.in_ok-push.ensures.ok)
+    (rule.one_name c.in_ok-take_name.ensures no.1))
 
 pub more-preserved : goal.more-preserved
 more-preserved c = λ context. let t = c.eat.ensures.seen (cc) in
-    one_more (c.more.invariant context) c.in_ok-push.ensures.ok (λ rest end s. rule.more_names c.in_ok-take_name.ensures t s)
+    one_more (c.more.invariant context) c.in_ok-push.ensures.ok
+    (λ rest end s. rule.more_names c.in_ok-take_name.ensures t s)
     (λ f z s. stuck.more_names c.in_ok-take_name.ensures t s)
 
 pub more-smaller : goal.more-smaller

@@ -13,8 +13,12 @@ loop-depth-preserved c =
     let at = c.loop-depth.depth in
     let d = c.args.declaration in (
       rw add-one (map-set scope_of fs at c.note.new.self
-          ∙ naming_each-more d 0 (map scope_of c.args.functions.now) (map scope_of fs) at at (scope_of f) (scope_of c.note.new.self) (omega arith) (omega (arith, length-map c.args.functions.now scope_of)) c.loop-depth.invariant.0
+          ∙ naming_each-more d 0 (map scope_of c.args.functions.now) (map scope_of fs) at at (scope_of f)
+          (scope_of c.note.new.self) (omega arith) (omega (arith, length-map c.args.functions.now scope_of))
+          c.loop-depth.invariant.0
           (get_or-map scope_of fs at f (scope_of f) (omega arith) ∙ ap scope_of (sym c.index-functions-depth.is))
           (c.note.ensures ∙ ap (λ (g : Function). naming d at (scope_of g)) (sym c.index-functions-depth.is))),
-      λ k e low high. let other : k ≢ at = omega arith in subst HasRoom (sym (get_or-set_other fs at k c.note.new.self e other)) (c.loop-depth.invariant.1 k e (omega arith) high),
+      λ k e low high. let other : k ≢ at = omega arith in
+          subst HasRoom (sym (get_or-set_other fs at k c.note.new.self e other))
+          (c.loop-depth.invariant.1 k e (omega arith) high),
     )

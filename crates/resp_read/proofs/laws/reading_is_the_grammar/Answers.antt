@@ -1,4 +1,4 @@
-use Rattle.resp_read.proofs.Continuing.{one-row}
+use Rattle.resp_read.proofs.Continuations.{one-sequence}
 use Rattle.resp_read.proofs.OneKind.{one-bad}
 use Rattle.resp_read.proofs.GrammarLaws.{reading-is, nothing-reads, goes-on-always, left-reads, not-both, words-given}
 use Rattle.resp_read.proofs.laws.reading_is_the_grammar.Goals as goal
@@ -15,8 +15,8 @@ returns-clause-nothing c = nothing-reads
 pub returns-clause-left : goal.returns-clause-left
 returns-clause-left c = left-reads
 
-pub returns-clause-one_row : goal.returns-clause-one_row
-returns-clause-one_row c = one-row
+pub returns-clause-one_sequence : goal.returns-clause-one_sequence
+returns-clause-one_sequence c = one-sequence
 
 pub returns-clause-one_bad : goal.returns-clause-one_bad
 returns-clause-one_bad c = one-bad

@@ -10,4 +10,5 @@ returns-in-Some-clause-found c =
 pub returns-in-Some-clause-only : goal.returns-in-Some-clause-only
 returns-in-Some-clause-only c =
     let text : c.args.text.now ≡ 48 ∷ 120 ∷ c.in-Some.digits.now = search rules in
-    λ numeral. sixteens_only c.args.text.now c.in-Some.digits.now c.by_sixteens.result text c.by_sixteens.ensures.only numeral
+    λ numeral. sixteens_only c.args.text.now c.in-Some.digits.now c.by_sixteens.result text c.by_sixteens.ensures.only
+    numeral

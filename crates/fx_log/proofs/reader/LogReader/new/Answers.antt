@@ -1,13 +1,20 @@
 use Rattle.std.proofs.Common.{[], None, refl, subst, arith}
-use Rattle.resp_read.specs.Frames.{LongestRow, IsWhole}
-use Rattle.resp_read.specs.Reading.{ReaderState, Waiting, StandsFor}
+use Rattle.resp_read.specs.Frames.{LongestSequence, IsWhole}
+use Rattle.resp_read.specs.Reading.{ReaderState, Waiting, HasRead}
 use Rattle.fx_log.specs.Logs.{IsLog}
 use Rattle.fx_log.proofs.reader.LogReader.new.Goals as goal
 
 pub returns-clause-stands : goal.returns-clause-stands
 returns-clause-stands c =
-    let stands : StandsFor (Waiting 0 []) [] = subst (λ (s : ReaderState). StandsFor s []) c.new.ensures.state c.new.ensures.stands in
-    let row : LongestRow [] [] [] = record { each = tt; text_is = refl; longest = λ others left each e. omega arith } in
-    let whole : IsWhole [] [] = record { forms = []; rest = []; row = row; commands_are = refl } in
-    let log : IsLog [] [] None = record { commands = []; whole = whole; begins = stands.2; within = (tt, tt); words_are = refl } in
+    let stands : HasRead (Waiting 0 []) [] = subst
+    (λ (s : ReaderState). HasRead s []) c.new.ensures.state c.new.ensures.stands in
+    let row : LongestSequence [] [] [] = record { each = tt; text_is = refl; longest = λ others left each e. omega arith } in
+    let whole : IsWhole [] [] = record { forms = []; rest = []; sequence = row; commands_are = refl } in
+    let log : IsLog [] [] None = record {
+      commands = [];
+      whole = whole;
+      begins = stands.2;
+      within = (tt, tt);
+      words_are = refl;
+    } in
     (c.new.ensures.stands, ([], log))

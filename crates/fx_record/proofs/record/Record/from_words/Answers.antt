@@ -6,4 +6,5 @@ use Rattle.fx_record.proofs.record.Record.from_words.Goals as goal
 pub returns-then-are_short-clause-within : goal.returns-then-are_short-clause-within
 returns-then-are_short-clause-within c =
     IsRecord-found c.args.words c.read.result
-    (c.read.ensures ∙ ap (λ short. cond short (record_shaped c.args.words) None) (sym c.if-are_short.true ∙ c.are_short.ensures))
+    (c.read.ensures ∙ ap (λ short. cond short (record_shaped c.args.words) None)
+    (sym c.if-are_short.true ∙ c.are_short.ensures))

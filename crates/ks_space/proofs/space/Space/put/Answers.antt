@@ -10,10 +10,10 @@ use Rattle.ks_space.proofs.space.Space.put.Goals as goal
 pub invariant_of-self : goal.invariant_of-self
 invariant_of-self c = (subst IsStore (sym c.in_err-old.ensures.err) c.self.invariant.0, c.self.invariant.1 ∙ ap dues (sym c.in_err-old.ensures.err))
 
-pub invariant_of-self-then-same : goal.invariant_of-self-then-same
-invariant_of-self-then-same c =
+pub invariant_of-self-then-are_same : goal.invariant_of-self-then-are_same
+invariant_of-self-then-are_same c =
     let table = c.self.inside.table in
-    let same = ap (deadline_at table) (sym c.as_slice.ensures.value) ∙ sym c.deadline-before.ensures ∙ c.same.ensures.0 c.if-same.true in (
+    let same = ap (deadline_at table) (sym c.as_slice.ensures.value) ∙ sym c.deadline-before.ensures ∙ c.are_same.ensures.0 c.if-are_same.true in (
       subst IsStore (sym c.in_ok-old.ensures.ok) (IsStore-insert table c.args.key c.args.entry c.self.invariant.0 c.requires.key c.requires.entry),
       dues-insert_same table c.args.key c.self.inside.deadlines c.args.entry same c.self.invariant.1 ∙ ap dues (sym c.in_ok-old.ensures.ok),
     )
@@ -23,7 +23,7 @@ invariant_of-self-in-Ok c =
     let table = c.self.inside.table in
     let before = c.deadline-before.result in
     let before_is = c.deadline-before.ensures ∙ ap (deadline_at table) c.as_slice.ensures.value in
-    let other : before ≢ c.args.entry.deadline = λ e. true≢false (sym (c.same.ensures.1 e) ∙ c.if-same.false) in
+    let other : before ≢ c.args.entry.deadline = λ e. true≢false (sym (c.are_same.ensures.1 e) ∙ c.if-are_same.false) in
     let came = c.in_ok-enter.ensures.ok (has_due table) (index_of table c.self.inside.deadlines c.self.invariant.1) in
     let left = c.leave.ensures (λ q. is_due c.of-coming.result q || has_due table q) came in
     let index = moved table c.args.key c.leave.new.self before c.args.entry.deadline c.of-leaving.result c.of-coming.result (c.of-leaving.ensures ∙ ap (λ k. due_of k before) c.in_ok-clone.ensures.cases)

@@ -1,6 +1,6 @@
 use Rattle.std.proofs.Common.{◌≡◌, ◌∙◌, ap, sym, Some, rules}
 use Rattle.std.specs.FinMap as finite
-use Rattle.ks_zset.proofs.Index.{insert_same}
+use Rattle.ks_zset.proofs.Ranked.{insert_same}
 use Rattle.ks_zset.proofs.zset.Zset.insert.Goals as goal
 
 pub returns-then-get-clause-ok : goal.returns-then-get-clause-ok

@@ -12,7 +12,8 @@ abbrev pub decreases-links : goal.decreases-links
 decreases-links g l = 2 * (7 - l.rank)
 
 abbrev pub invariant-links-more : goal.invariant-links-more
-invariant-links-more g l = Leads Link (thing.links l.rank) (class.links l.rank) l.self.context l.links l.fn.reader l.reader
+invariant-links-more g l = Leads Link (thing.links l.rank) (class.links l.rank) l.self.context l.links l.fn.reader
+    l.reader
 
 abbrev pub decreases-links-more : goal.decreases-links-more
 decreases-links-more g l = length l.reader.words

@@ -16,4 +16,5 @@ returns-in_default g c =
     let no_local : SeesNot kind.Local c.args.reader.now = search rules in
     let no_name : SeesNot kind.Name c.args.reader.now = search rules in
     let no_paren : SeesNot kind.LeftParen c.args.reader.now = search rules in
-    rw c.unexpected.ensures (stuck.deed (no_deed _ no_do no_while no_repeat no_if no_for no_function no_local no_name no_paren))
+    rw c.unexpected.ensures (stuck.deed (no_deed _ no_do no_while no_repeat no_if no_for no_function no_local no_name
+    no_paren))

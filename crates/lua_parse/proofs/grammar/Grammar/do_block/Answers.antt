@@ -1,13 +1,14 @@
 use Rattle.lua_grammar.specs.Grammar as rule
 use Rattle.std.proofs.lemmas.Result.{err_from_is_err_and}
 use Rattle.std.proofs.Common.{ap}
-use Rattle.lua_grammar.specs.Rows as row
+use Rattle.lua_grammar.specs.Productions as parts
 use Rattle.lua_grammar.specs.Stuck as stuck
 use Rattle.lua_parse.proofs.Passed.{passed, lacks, faulty}
 use Rattle.lua_parse.proofs.grammar.Grammar.do_block.Goals as goal
 
 pub returns : goal.returns
-returns g c = rule.do_block c.in_ok-take.ensures c.in_ok-room.ensures (rw c.inner.ensures at c.in_ok-block.ensures) c.in_ok-take-2.ensures
+returns g c = rule.do_block c.in_ok-take.ensures c.in_ok-room.ensures (rw c.inner.ensures at c.in_ok-block.ensures)
+    c.in_ok-take-2.ensures
 
 pub returns-in_err-room : goal.returns-in_err-room
 returns-in_err-room g c = let p = err_from_is_err_and c.from_residual.result c.from_residual.ensures.1 in
@@ -15,11 +16,15 @@ returns-in_err-room g c = let p = err_from_is_err_and c.from_residual.result c.f
     (stuck.deed_level (ap stuck.nests_statement c.requires.seen) c.in_err-room.ensures.1))
 
 pub returns-in_err-block : goal.returns-in_err-block
-returns-in_err-block g c = let p = err_from_is_err_and c.from_residual-in_err-block.result c.from_residual-in_err-block.ensures.1 in
-    rw (p.1, p.2) (passed _ _ (row.do_block c.requires.seen c.in_ok-room.ensures) (row.more c.in_ok-take.ensures row.nothing)
+returns-in_err-block g c = let p = err_from_is_err_and c.from_residual-in_err-block.result
+    c.from_residual-in_err-block.ensures.1 in
+    rw (p.1, p.2) (passed _ _ (parts.do_block c.requires.seen c.in_ok-room.ensures)
+    (parts.more c.in_ok-take.ensures parts.nothing)
     (rw c.inner.ensures at c.in_err-block.ensures))
 
 pub returns-in_err-take-2 : goal.returns-in_err-take-2
-returns-in_err-take-2 g c = let p = err_from_is_err_and c.from_residual-in_err-take-2.result c.from_residual-in_err-take-2.ensures.1 in
-    rw (p.1, p.2) (lacks _ _ (row.do_block c.requires.seen c.in_ok-room.ensures)
-    (row.more c.in_ok-take.ensures (row.more (_, rw c.inner.ensures at c.in_ok-block.ensures) row.nothing)) c.in_err-take-2.ensures)
+returns-in_err-take-2 g c = let p = err_from_is_err_and c.from_residual-in_err-take-2.result
+    c.from_residual-in_err-take-2.ensures.1 in
+    rw (p.1, p.2) (lacks _ _ (parts.do_block c.requires.seen c.in_ok-room.ensures)
+    (parts.more c.in_ok-take.ensures (parts.more (_, rw c.inner.ensures at c.in_ok-block.ensures) parts.nothing))
+    c.in_err-take-2.ensures)

@@ -10,4 +10,5 @@ returns g c = rule.expression c.begin_expression-counts.ensures.begun c.in_ok-ex
 
 pub returns-in_err-expression : goal.returns-in_err-expression
 returns-in_err-expression g c = let p = err_from_is_err_and c.from_residual.result c.from_residual.ensures.1 in
-    rw (p.1, p.2) (goes_on _ _ (λ f s. stuck.expression s) (rw c.begin_expression-counts.ensures.begun.begun at c.in_err-expression.ensures))
+    rw (p.1, p.2) (goes_on _ _ (λ f s. stuck.expression s)
+    (rw c.begin_expression-counts.ensures.begun.begun at c.in_err-expression.ensures))

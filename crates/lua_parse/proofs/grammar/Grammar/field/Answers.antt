@@ -16,14 +16,16 @@ returns-then-is_named g c = c.named.ensures
 
 pub returns : goal.returns
 returns g c =
-    let plain : at.is_named (at.kind c.args.reader.now) (at.kind (at.next c.args.reader.now)) ≡ false = rw (← c.peek.ensures, ← c.peek_behind.ensures, ← c.is_named.ensures) (cc) in
+    let plain : at.is_named (at.kind c.args.reader.now) (at.kind (at.next c.args.reader.now)) ≡ false =
+    rw (← c.peek.ensures, ← c.peek_behind.ensures, ← c.is_named.ensures) (cc) in
     rule.plain plain c.in_ok-expression.ensures
 
 pub returns-in_err-expression : goal.returns-in_err-expression
 returns-in_err-expression g c = let p = err_from_is_err_and c.from_residual.result c.from_residual.ensures.1 in
     rw (p.1, p.2) (let plain : at.is_named (at.kind c.args.reader.now) (at.kind (at.next c.args.reader.now)) ≡ false =
     rw (← c.peek.ensures, ← c.peek_behind.ensures, ← c.is_named.ensures) (cc) in
-    goes_on _ _ (λ f s. stuck.plain (sees_not kind.LeftBracket c.args.reader.now c.sees.ensures (cc)) plain s) c.in_err-expression.ensures)
+    goes_on _ _ (λ f s. stuck.plain (sees_not kind.LeftBracket c.args.reader.now c.sees.ensures (cc)) plain s)
+    c.in_err-expression.ensures)
 
 pub named-requires-clause-named : goal.named-requires-clause-named
 named-requires-clause-named g c = rw (← c.peek.ensures, ← c.peek_behind.ensures, ← c.is_named.ensures) (cc)

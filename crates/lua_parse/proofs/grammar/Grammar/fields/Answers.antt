@@ -16,7 +16,8 @@ more-init g c = rw c.new-fields.ensures none_yet
 pub returns-then-not-is_separator : goal.returns-then-not-is_separator
 returns-then-not-is_separator g c =
     let no = sees_not kind.RightBrace c.more.reader c.sees.ensures (cc) in
-    ended_by c.more.invariant c.in_ok-push.ensures.ok (rule.last_field no c.in_ok-field.ensures (sym (c.is_separator.ensures ∙ ap at.is_separator c.peek.ensures) ∙ cc))
+    rw c.in_ok-exact.ensures (ended_by c.more.invariant c.in_ok-push.ensures.ok
+    (rule.last_field no c.in_ok-field.ensures (sym (c.is_separator.ensures ∙ ap at.is_separator c.peek.ensures) ∙ cc)))
 
 pub more-preserved : goal.more-preserved
 more-preserved g c =
@@ -32,7 +33,7 @@ more-smaller g c =
     (also_eats (goes c.in_ok-field.ensures) (separator_eats some c.pass.ensures)).words
 
 pub returns : goal.returns
-returns g c = ended c.more.invariant (rule.no_fields (c.sees.ensures.0 (cc)))
+returns g c = rw c.in_ok-exact-2.ensures (ended c.more.invariant (rule.no_fields (c.sees.ensures.0 (cc))))
 
 pub returns-in_err-field : goal.returns-in_err-field
 returns-in_err-field g c = let p = err_from_is_err_and c.from_residual.result c.from_residual.ensures.1 in

@@ -1,7 +1,7 @@
 use Rattle.lua_grammar.specs.Grammar as rule
 use Rattle.std.proofs.lemmas.Result.{err_from_is_err_and}
 use Rattle.std.proofs.Common.{ap}
-use Rattle.lua_grammar.specs.Rows as row
+use Rattle.lua_grammar.specs.Productions as parts
 use Rattle.lua_grammar.specs.Stuck as stuck
 use Rattle.lua_parse.proofs.Passed.{passed, faulty}
 use Rattle.lua_parse.proofs.grammar.Grammar.for_loop.Goals as goal
@@ -15,6 +15,8 @@ returns-in_err-room g c = let p = err_from_is_err_and c.from_residual.result c.f
     (stuck.deed_level (ap stuck.nests_statement c.requires.seen) c.in_err-room.ensures.1))
 
 pub returns-in_err-deed : goal.returns-in_err-deed
-returns-in_err-deed g c = let p = err_from_is_err_and c.from_residual-in_err-deed.result c.from_residual-in_err-deed.ensures.1 in
-    rw (p.1, p.2) (passed _ _ (row.for_loop c.requires.seen c.in_ok-room.ensures) (row.more c.in_ok-take.ensures row.nothing)
+returns-in_err-deed g c = let p = err_from_is_err_and c.from_residual-in_err-deed.result
+    c.from_residual-in_err-deed.ensures.1 in
+    rw (p.1, p.2) (passed _ _ (parts.for_loop c.requires.seen c.in_ok-room.ensures)
+    (parts.more c.in_ok-take.ensures parts.nothing)
     c.in_err-deed.ensures)

@@ -16,4 +16,5 @@ returns g c = rule.name c.in_ok-take_name.ensures
 pub returns-in_err-take_name : goal.returns-in_err-take_name
 returns-in_err-take_name g c = let p = err_from_is_err_and c.from_residual.result c.from_residual.ensures.1 in
     rw (p.1, p.2) (unexpected kind.Name _ _
-    (λ no. stuck.head (no_chain _ (sees_not kind.LeftParen c.args.reader.now c.sees.ensures (cc)) no)) c.in_err-take_name.ensures)
+    (λ no. stuck.head (no_chain _ (sees_not kind.LeftParen c.args.reader.now c.sees.ensures (cc)) no))
+    c.in_err-take_name.ensures)

@@ -12,10 +12,12 @@ more-init g c = rw c.new-list.ensures none_yet
 
 pub returns-then-not-eat : goal.returns-then-not-eat
 returns-then-not-eat g c = let no = c.eat.ensures.unseen (cc) in
-    rw no.0 (ended_by c.more.invariant (c.in_ok-exact.ensures ∙ c.in_ok-push.ensures.ok) (rule.last_expression c.in_ok-expression.ensures no.1))
+    rw no.0 (ended_by c.more.invariant (c.in_ok-exact.ensures ∙ c.in_ok-push.ensures.ok)
+    (rule.last_expression c.in_ok-expression.ensures no.1))
 
 pub more-preserved : goal.more-preserved
-more-preserved g c = one_more c.more.invariant c.in_ok-push.ensures.ok (λ rest end s. rule.more_expressions c.in_ok-expression.ensures (c.eat.ensures.seen (cc)) s)
+more-preserved g c = one_more c.more.invariant c.in_ok-push.ensures.ok
+    (λ rest end s. rule.more_expressions c.in_ok-expression.ensures (c.eat.ensures.seen (cc)) s)
     (λ f z s. stuck.more_expressions c.in_ok-expression.ensures (c.eat.ensures.seen (cc)) s)
 
 pub more-smaller : goal.more-smaller

@@ -1,6 +1,6 @@
 use Rattle.lua_grammar.specs.Grammar as rule
 use Rattle.std.proofs.lemmas.Result.{err_from_is_err_and}
-use Rattle.lua_grammar.specs.Rows as row
+use Rattle.lua_grammar.specs.Productions as parts
 use Rattle.lua_parse.proofs.Passed.{passed}
 use Rattle.lua_parse.proofs.grammar.Grammar.otherwise.Goals as goal
 
@@ -13,4 +13,5 @@ returns g c = rule.else_block (c.eat.ensures.seen (cc)) c.requires.room (rw c.in
 pub returns-in_err-block : goal.returns-in_err-block
 returns-in_err-block g c = let p = err_from_is_err_and c.from_residual.result c.from_residual.ensures.1 in
     rw (p.1, p.2) (let t = c.eat.ensures.seen (cc) in
-    passed _ _ (row.otherwise t.seen c.requires.room) (row.more t row.nothing) (rw c.inner.ensures at c.in_err-block.ensures))
+    passed _ _ (parts.otherwise t.seen c.requires.room) (parts.more t parts.nothing)
+    (rw c.inner.ensures at c.in_err-block.ensures))

@@ -1,6 +1,6 @@
 use Rattle.std.proofs.lemmas.Result.{err_from_is_err_and}
 use Rattle.lua_grammar.specs.Grammar as rule
-use Rattle.lua_grammar.specs.Rows as row
+use Rattle.lua_grammar.specs.Productions as parts
 use Rattle.lua_parse.proofs.Passed.{passed}
 use Rattle.lua_parse.proofs.grammar.Grammar.table_argument.Goals as goal
 
@@ -9,4 +9,4 @@ returns g c = rw c.in_ok-only.ensures (rule.table_argument c.in_ok-fields.ensure
 
 pub returns-in_err-fields : goal.returns-in_err-fields
 returns-in_err-fields g c = let p = err_from_is_err_and c.from_residual.result c.from_residual.ensures.1 in
-    rw (p.1, p.2) (passed _ _ (row.table_argument c.requires.seen) row.nothing c.in_err-fields.ensures)
+    rw (p.1, p.2) (passed _ _ (parts.table_argument c.requires.seen) parts.nothing c.in_err-fields.ensures)

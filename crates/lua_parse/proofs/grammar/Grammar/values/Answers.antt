@@ -1,6 +1,6 @@
 use Rattle.lua_grammar.specs.Grammar as rule
 use Rattle.std.proofs.lemmas.Result.{err_from_is_err_and}
-use Rattle.lua_grammar.specs.Rows as row
+use Rattle.lua_grammar.specs.Productions as parts
 use Rattle.lua_parse.proofs.Passed.{passed}
 use Rattle.lua_parse.proofs.grammar.Grammar.values.Goals as goal
 
@@ -13,4 +13,4 @@ returns g c = rule.values (c.eat.ensures.seen (cc)) c.in_ok-values.ensures
 pub returns-in_err-values : goal.returns-in_err-values
 returns-in_err-values g c = let p = err_from_is_err_and c.from_residual.result c.from_residual.ensures.1 in
     rw (p.1, p.2) (let t = c.eat.ensures.seen (cc) in
-    passed _ _ (row.values t.seen) (row.more t row.nothing) c.in_err-values.ensures)
+    passed _ _ (parts.values t.seen) (parts.more t parts.nothing) c.in_err-values.ensures)

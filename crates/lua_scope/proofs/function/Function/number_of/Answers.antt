@@ -10,5 +10,6 @@ returns-then-eq c =
     let locals = c.args.self.now.locals.items in
     let at = c.loop-at.at - 1 in
     let here : bytes_eq (get_or locals at []) name ≡ true =
-    rw (← get_or_read locals at c.index.result.now (omega arith) c.index.ensures [], ← c.as_slice.ensures.value) (sym c.eq.ensures ∙ c.if-eq.true) in
+    rw (← get_or_read locals at c.index.result.now (omega arith) c.index.ensures [], ← c.as_slice.ensures.value)
+    (sym c.eq.ensures ∙ c.if-eq.true) in
     sym (last_place-before name locals c.loop-at.at (omega arith) (omega arith) c.loop-at.invariant here)

@@ -1,5 +1,5 @@
 use Rattle.std.proofs.Common.{◌<◌, length, arith}
-use Rattle.resp_read.proofs.Standing.{StandsBehind-more, StandsBehind-stop}
+use Rattle.resp_read.proofs.Positions.{StandsBehind-more, StandsBehind-stop}
 use Rattle.resp_read.proofs.cursor.Cursor.take_all.Goals as goal
 
 pub returns-in-Some-clause-bad : goal.returns-in-Some-clause-bad

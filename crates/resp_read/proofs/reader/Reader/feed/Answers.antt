@@ -1,5 +1,5 @@
-use Rattle.resp_read.proofs.Continuing.{StandsBehind-ready}
-use Rattle.resp_read.proofs.Feeding.{opened, failed, fed-whole, fed-bad, goes, breaks, took, refused}
+use Rattle.resp_read.proofs.Continuations.{StandsBehind-ready}
+use Rattle.resp_read.proofs.Pieces.{opened, failed, fed-whole, fed-bad, goes, breaks, took, refused}
 use Rattle.resp_read.proofs.reader.Reader.feed.Goals as goal
 
 pub returns-in-Failed-clause-stops : goal.returns-in-Failed-clause-stops
