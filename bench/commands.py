@@ -1,18 +1,18 @@
 #!/usr/bin/env python3
-"""Times turns of mixed commands in `redscript play`, and appends the figures to docs/PERFORMANCE.md.
+"""Times turns of mixed commands in `redscript play`.
 
 Run it at the top of the repository after `rt ci`, which leaves the program at crates/redscript/out/redscript. One client
 sends SET, GET, INCR and PEXPIRE by turns over KEYS keys, each command a turn of its own, at a clock that goes on by a
 millisecond a turn; keys expire and come back. The session is played RUNS times into files in a new folder; the best time
 counts, as the others measure the machine.
 """
-import os
 import tempfile
 
-from common import REDSCRIPT, RUNS, best, frame, heading, run, write
+from common import RUNS, Figure, at_least, escaped, frame, heading, play, write
 
 TURNS = 1_000_000
 KEYS = 10_000
+TURNS_WANTED = at_least(300_000)
 
 
 def command(i):
@@ -24,28 +24,16 @@ def command(i):
 def lines():
     yield "1000 0 1 opened\n"
     for i in range(TURNS):
-        text = frame(*command(i)).replace("\r", "\\r").replace("\n", "\\n")
-        yield f"{1000 + i} {i} 1 piece {text}\n"
-
-
-def play(folder, path, number):
-    """One play: seconds and the greatest resident size in bytes."""
-    log = os.path.join(folder, f"log.{number}")
-    taken = run([REDSCRIPT, "play", log], path, os.path.join(folder, "out"))
-    os.remove(log)
-    return taken
+        yield f"{1000 + i} {i} 1 piece {escaped(frame(*command(i)))}\n"
 
 
 def main():
     with tempfile.TemporaryDirectory() as folder:
-        path = os.path.join(folder, "session")
-        with open(path, "w", encoding="ascii") as file:
-            file.writelines(lines())
-        seconds, memory = best([play(folder, path, number) for number in range(RUNS)])
-        size = os.path.getsize(path)
+        size, seconds, memory = play(folder, lines())
     write(heading("mixed commands")
-          + f"| turns | session | best of {RUNS} | turns a second | peak memory |\n|---|---|---|---|---|\n"
-          f"| {TURNS:,} | {size / 1e6:.1f} MB | {seconds:.3f} s | {TURNS / seconds:,.0f} | {memory / 1e6:.1f} MB |\n")
+          + f"| turns | session | best of {RUNS} | peak memory |\n|---|---|---|---|\n"
+          f"| {TURNS:,} | {size / 1e6:.1f} MB | {seconds:.3f} s | {memory / 1e6:.1f} MB |\n",
+          [Figure("turns a second", TURNS // seconds, TURNS_WANTED)])
 
 
 main()

@@ -1,7 +1,7 @@
 #!/usr/bin/env python3
 """Compares which texts have a tree, and on which line a text without one stops, with `luac5.1 -p`.
 
-Run it at the top of the repository after `rt ci`, which leaves the program at crates/lua_trees/out/lua_trees. Where there is no
+Run it at the top of the repository after `rt ci`, which leaves the program at crates/lua_timing/out/lua_timing. Where there is no
 luac5.1 it does nothing. The texts are made by chance from a grammar, and then some words of each are dropped, doubled or put
 elsewhere, so that most of them stop. They stay within the limits on nesting and length. Two stops are not compared: luac names a
 `break` outside a loop at the word behind it, and takes `...` in the main text.
@@ -14,7 +14,7 @@ import sys
 
 from common import program
 
-PROGRAM = [program("lua_trees")]
+PROGRAM = [program("lua_timing"), "trees"]
 LUAC = shutil.which("luac5.1")
 TEXTS = 2_000
 SEED = 1

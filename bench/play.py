@@ -1,5 +1,5 @@
 #!/usr/bin/env python3
-"""Times `redscript play`, and appends the figures to docs/PERFORMANCE.md.
+"""Times `redscript play`.
 
 Run it at the top of the repository after `rt ci`, which leaves the program at crates/redscript/out/redscript.
 First it plays the example session and compares what the real files then hold, which no contract tells. Then it plays
@@ -9,15 +9,16 @@ Each session is played RUNS times into files in a new folder; the best time coun
 import os
 import tempfile
 
-from common import REDSCRIPT, RUNS, TOP, best, check, frame, heading, run, write
+from common import REDSCRIPT, RUNS, TOP, Figure, at_least, at_most, check, escaped, frame, heading, play, write
 
 EXAMPLE = os.path.join(TOP, "crates", "redscript")
 LOGGED = frame("SET", "k", "v").encode()
-
-
-def escaped(text):
-    """Bytes in the escape of a session; these need it at line ends alone."""
-    return text.replace("\r", "\\r").replace("\n", "\\n")
+MEGABYTE = frame("SET", "k", "a" * 1000) * 970
+MB_A_SECOND_WANTED = at_least(20)
+MEMORY_OVER_SESSION_WANTED = at_most(10)
+TWICE_THE_SESSION_WANTED = at_most(2.3)
+SINGLE_BYTES_WANTED = at_most(3)
+THOUSAND_CLIENTS_WANTED = at_most(1.5)
 
 
 def sets(lines):
@@ -25,9 +26,6 @@ def sets(lines):
     yield "1000 0 1 opened\n"
     for i in range(lines):
         yield f"{1000 + i} {i} 1 piece {escaped(frame('SET', f'key:{i:06}', f'{i:0100}'))}\n"
-
-
-MEGABYTE = frame("SET", "k", "a" * 1000) * 970
 
 
 def one_by_one(client):
@@ -68,57 +66,46 @@ def read(*path):
 def check_files(folder):
     """The example is played into the files, a log that is there is left as it is, and a bad session makes none."""
     log = os.path.join(folder, "example.log")
-    session_text = read(EXAMPLE, "stdin")
-    for text, status, out, logged in [(session_text + b"x\n", 3, b"", None),
-                                      (session_text, 0, read(EXAMPLE, "stdout"), LOGGED),
-                                      (session_text, 7, b"", LOGGED)]:
+    session = read(EXAMPLE, "stdin")
+    for text, status, out, logged in [(session + b"x\n", 3, b"", None),
+                                      (session, 0, read(EXAMPLE, "stdout"), LOGGED),
+                                      (session, 7, b"", LOGGED)]:
         check([REDSCRIPT, "play", log], text, status, out)
         held = read(log) if os.path.exists(log) else None
         if held != logged:
             raise SystemExit(f"not as wanted: log {held}")
 
 
-def play(folder, path, number):
-    """One play: seconds and the greatest resident size in bytes."""
-    log = os.path.join(folder, f"log.{number}")
-    taken = run([REDSCRIPT, "play", log], path, os.path.join(folder, "out"))
-    os.remove(log)
-    return taken
-
-
-def measure(folder, lines):
-    """The size of a session, the best time over it and the greatest memory."""
-    path = os.path.join(folder, "session")
-    with open(path, "w", encoding="ascii") as file:
-        file.writelines(lines)
-    return os.path.getsize(path), *best([play(folder, path, number) for number in range(RUNS)])
-
-
 def table(head, rows):
     text = [f"| {head} | session | best of {RUNS} | MB a second | peak memory | over session |\n", "|---|---|---|---|---|---|\n"]
-    for name, (size, seconds, memory) in rows:
+    for name, (size, seconds, memory) in rows.items():
         text.append(f"| {name} | {size / 1e6:.1f} MB | {seconds:.3f} s | {size / 1e6 / seconds:.1f} | "
                     f"{memory / 1e6:.1f} MB | {memory / size:.1f} |\n")
     return "".join(text)
 
 
+def ratio(rows, one, other):
+    """How many times as long the one session took as the other."""
+    return rows[one][1] / rows[other][1]
+
+
 def main():
     with tempfile.TemporaryDirectory() as folder:
         check_files(folder)
-        lines = [(f"{n:,}", measure(folder, sets(n))) for n in (100_000, 200_000)]
-        pieces = [("in one piece", measure(folder, bytes_whole())),
-                  ("in single bytes", measure(folder, bytes_apart())),
-                  ("in single bytes unheard, then in one piece", measure(folder, bytes_unheard()))]
-        clients = [(f"{n:,}", measure(folder, turns_of(n))) for n in (1, 1_000)]
-    report = (heading("play")
-              + table("SET lines", lines)
-              + f"\nTwice the session took {lines[1][1][1] / lines[0][1][1]:.2f} times as long.\n\n"
-              + table("1 MB of SETs", pieces)
-              + f"\nReading byte by byte took {pieces[1][1][1] / pieces[2][1][1]:.2f} times as long as reading the same bytes whole "
-              "beside the same lines unheard.\n\n"
-              + table("clients", clients)
-              + f"\nA turn of a thousand clients took {clients[1][1][1] / clients[0][1][1]:.2f} times as long as one of one client.\n")
-    write(report)
+        lines = {f"{n:,}": play(folder, sets(n)) for n in (100_000, 200_000)}
+        pieces = {"in one piece": play(folder, bytes_whole()),
+                  "in single bytes": play(folder, bytes_apart()),
+                  "in single bytes unheard, then in one piece": play(folder, bytes_unheard())}
+        clients = {f"{n:,}": play(folder, turns_of(n)) for n in (1, 1_000)}
+    size, seconds, memory = lines["200,000"]
+    write(heading("play") + "\n".join([table("SET lines", lines), table("1 MB of SETs", pieces), table("clients", clients)]), [
+        Figure("MB a second of SET lines", size / 1e6 / seconds, MB_A_SECOND_WANTED),
+        Figure("memory over session of SET lines", memory / size, MEMORY_OVER_SESSION_WANTED),
+        Figure("twice the session, times as long", ratio(lines, "200,000", "100,000"), TWICE_THE_SESSION_WANTED),
+        Figure("single bytes read, times as long as the same bytes whole beside the same lines unheard",
+               ratio(pieces, "in single bytes", "in single bytes unheard, then in one piece"), SINGLE_BYTES_WANTED),
+        Figure("a turn of a thousand clients, times as long as one of one client", ratio(clients, "1,000", "1"),
+               THOUSAND_CLIENTS_WANTED)])
 
 
 main()

@@ -1,18 +1,20 @@
 #!/usr/bin/env python3
-"""Times `redscript replay`, and appends the figures to docs/PERFORMANCE.md.
+"""Times `redscript replay`.
 
 Run it at the top of the repository after `rt ci`, which leaves the program at crates/redscript/out/redscript.
-First it replays a small log, whole and cut, and compares what is written. Then it replays logs of SETs over 1,000 keys, of
+First it replays a small log, whole and cut, and compares what is written. Then it replays logs of SETs over KEYS keys, of
 10 and of 100 MB: the time is to grow with the log, and the memory with the store alone.
 Each log is replayed RUNS times; the best time counts, as the others measure the machine.
 """
 import os
 import tempfile
 
-from common import REDSCRIPT, RUNS, best, check, frame, heading, run, write
+from common import REDSCRIPT, RUNS, Figure, at_least, at_most, best, check, frame, heading, run, write
 
 REPLAY = [REDSCRIPT, "replay"]
 KEYS = 1_000
+MB_A_SECOND_WANTED = at_least(50)
+MB_OF_MEMORY_WANTED = at_most(64)
 
 
 def records(size):
@@ -50,7 +52,9 @@ def main():
                                   "|---|---|---|---|\n")
     for size, seconds, memory in rows:
         report += f"| {size / 1e6:.1f} MB | {seconds:.3f} s | {size / 1e6 / seconds:.1f} | {memory / 1e6:.1f} MB |\n"
-    write(report)
+    size, seconds, memory = rows[-1]
+    write(report, [Figure("MB a second of the longer log", size / 1e6 / seconds, MB_A_SECOND_WANTED),
+                   Figure("MB of memory for it", memory / 1e6, MB_OF_MEMORY_WANTED)])
 
 
 main()
