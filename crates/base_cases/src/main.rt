@@ -7,11 +7,13 @@
 //! - `escape BYTE ..`, `unescape TEXT`: the spelling of a text, and the text of a spelling. Its bytes are told by their
 //!   numbers, so that these cases do not lean on the escape in which the words of a case are spelled.
 //! - `compare TEXT TEXT`: the order of the two; behind it `below` where `<` holds, and `equal` where `==` does.
-//! - `bytes`, `room N`, `push TEXT`, `append TEXT`, `keep`, `kept`, `moved`: a string of bytes until the next empty line.
+//! - `bytes`, `room N`, `push TEXT`, `append TEXT`, `keep`, `kept`, `moved`: a string of bytes until the next empty
+//!   line.
 //!   Each answers its length and its bytes. `room` begins it anew with memory, `push` takes one byte after another,
 //!   `kept` tells the copy that `keep` made, and `moved` takes the bytes to a `Vec` and back.
 //! - `words`, `word TEXT`, `nth N`, `same WORD ..`, `copy`: words until the next empty line. The first two answer how
-//!   many and which, `word` with one more; then the word at a place, whether these are the words, and whether a copy is.
+//!   many and which, `word` with one more; then the word at a place, whether these are the words, and whether a copy
+//!   is.
 //! - `numbers N ..`, `shown TEXT`: how a list of numbers and a string of bytes are shown to a programmer.
 //! - `NoMemory`, `NotWhole`: what the error says.
 //! - `literal TEXT`, `numeral TEXT`, `integer TEXT`: the number that the text stands for.
@@ -21,7 +23,8 @@
 //! - `equal PART ..`: whether the two replies that the parts are equal each other.
 //! - `feed PIECE ..`: what a reader answers, which lives until the next empty line: each command as `@PLACE WORD ..`, a
 //!   bad byte as `bad PLACE KIND`, or `Failed`; and then `+N`, how many bytes wait.
-//! - `cut TEXT`: what a reader answers to the text, and to the text in two pieces, cut at each place in turn, the second
+//! - `cut TEXT`: what a reader answers to the text, and to the text in two pieces, cut at each place in turn, the
+//!   second
 //!   whole and byte by byte. An answer that is not the first one stands behind its cut.
 //! - `laws`: the theorems are called, which have no code.
 #![tactic(auto)]

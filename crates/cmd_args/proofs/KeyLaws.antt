@@ -2,7 +2,9 @@
 use Rattle.std.proofs.Common.{◌≢◌, ℕ, zero, suc, List, [], ◌∷◌, take, drop, sym, arith}
 use Rattle.std.specs.List.{AllByRecursion, Contains}
 use Rattle.cmd_args.specs.declared.commands.CmdId.{CmdId}
-use Rattle.cmd_args.specs.declared.commands.CmdId.TheVariants.{Ping, Echo, Select, Time, DbSize, FlushAll, FlushDb, Quit, MGet, MSet, MSetNx, Del, Unlink, Exists, Keys, RandomKey, Rename, RenameNx}
+use Rattle.cmd_args.specs.declared.commands.CmdId.TheVariants.{Ping, Echo, Select, Time, DbSize, FlushAll, FlushDb}
+use Rattle.cmd_args.specs.declared.commands.CmdId.TheVariants.{Quit, MGet, MSet, MSetNx, Del, Unlink, Exists, Keys}
+use Rattle.cmd_args.specs.declared.commands.CmdId.TheVariants.{RandomKey, Rename, RenameNx}
 use Rattle.cmd_args.specs.Keys.{firsts, keys_named}
 
 module _ (Q : List ℕ → Type 0) where
@@ -21,7 +23,8 @@ module _ (Q : List ℕ → Type 0) where
   all-firsts (key ∷ value ∷ words) all = (all.0, all-firsts words all.1.1)
 
   -- what is so of each word is so of each key
-  pub all-keys_named : (id : CmdId) (words : List (List ℕ)) → AllByRecursion Q words → AllByRecursion Q (keys_named id words)
+  pub all-keys_named : (id : CmdId) (words : List (List ℕ)) → AllByRecursion Q words
+      → AllByRecursion Q (keys_named id words)
   unfolding keys_named
   all-keys_named Ping words all = tt
   all-keys_named Echo words all = tt

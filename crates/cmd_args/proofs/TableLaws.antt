@@ -1,5 +1,6 @@
 -- Names of commands, in letters of either case.
-use Rattle.std.proofs.Common.{◌≡◌, ℕ, List, [], ◌∷◌, refl, ap, sym, ◌∙◌, arith, subst, Bool, true, false, cond, Option, Some, None}
+use Rattle.std.proofs.Common.{◌≡◌, ℕ, List, [], ◌∷◌, refl, ap, sym, ◌∙◌, arith, subst, Bool, true, false, cond}
+use Rattle.std.proofs.Common.{Option, Some, None}
 use Rattle.std.proofs.lemmas.Bool.Decides.{nat_tests}
 use Rattle.std.specs.Prelude.{find}
 use Rattle.std.specs.Option.{option_map, option_map_or}
@@ -49,7 +50,8 @@ pub same_in_upper : (word : List ℕ) → row_named (str_to_ascii_uppercase word
 same_in_upper word = ap named_in_lower (raised word)
 
 step :
-    (test : CmdId → Bool) (first id : CmdId) (later : Option CmdId) (passes : Bool) → test first ≡ passes → cond passes (Some first) later ≡ Some id
+    (test : CmdId → Bool) (first id : CmdId) (later : Option CmdId) (passes : Bool) → test first ≡ passes
+    → cond passes (Some first) later ≡ Some id
     → (later ≡ Some id → test id ≡ true) → test id ≡ true
 step test first id later true here e more = cc
 step test first id later false here e more = more e
@@ -63,7 +65,8 @@ passing test (first ∷ ids) id e = step test first id (find test ids) (test fir
 abbrev IsRowFor : List ℕ → Row → Type 0
 IsRowFor word row = (is_name word row.id ≡ true) × (row ≡ row_of row.id)
 
-row_for : (word : List ℕ) (row : Row) (id : Option CmdId) → find (is_name word) commands ≡ id → option_map row_of id ≡ Some row → IsRowFor word row
+row_for : (word : List ℕ) (row : Row) (id : Option CmdId) → find (is_name word) commands ≡ id
+    → option_map row_of id ≡ Some row → IsRowFor word row
 row_for word row None here e = cc
 row_for word row (Some id) here e =
     let named : is_name word id ≡ true = passing (is_name word) commands id here in
@@ -71,5 +74,6 @@ row_for word row (Some id) here e =
     subst (IsRowFor word) same (named, refl)
 
 -- a row that is found is that of the command that the word names
-pub its_own : (word : List ℕ) (row : Row) → row_named word ≡ Some row → (is_name word row.id ≡ true) × (row ≡ row_of row.id)
+pub its_own : (word : List ℕ) (row : Row) → row_named word ≡ Some row → (is_name word row.id ≡ true)
+    × (row ≡ row_of row.id)
 its_own word row e = row_for word row (find (is_name word) commands) refl e

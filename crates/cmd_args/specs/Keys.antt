@@ -1,7 +1,9 @@
 -- The keys that a command names, by their places among its words (Redis manual, key specifications).
 use Rattle.std.specs.Prelude.{ℕ, List, [], ◌∷◌, take, drop}
 use Rattle.cmd_args.specs.declared.commands.CmdId.{CmdId}
-use Rattle.cmd_args.specs.declared.commands.CmdId.TheVariants.{Ping, Echo, Select, Time, DbSize, FlushAll, FlushDb, Quit, MGet, MSet, MSetNx, Del, Unlink, Exists, Keys, RandomKey, Rename, RenameNx}
+use Rattle.cmd_args.specs.declared.commands.CmdId.TheVariants.{Ping, Echo, Select, Time, DbSize, FlushAll, FlushDb}
+use Rattle.cmd_args.specs.declared.commands.CmdId.TheVariants.{Quit, MGet, MSet, MSetNx, Del, Unlink, Exists, Keys}
+use Rattle.cmd_args.specs.declared.commands.CmdId.TheVariants.{RandomKey, Rename, RenameNx}
 
 -- of words that come in pairs the first of each
 abbrev pub firsts : List (List ℕ) → List (List ℕ)

@@ -1,7 +1,10 @@
 -- What a command that is refused answers.
 use Rattle.std.specs.Prelude.{ℕ, List, [], ◌++◌, take, codes}
 use Rattle.cmd_args.specs.declared.refusal.Refusal.{Refusal}
-use Rattle.cmd_args.specs.declared.refusal.Refusal.TheVariants.{UnknownCommand, WordCount, NoWord, NotInScript, ReadOnlyScript, TooLarge, Syntax, NotInteger, ExpireTime, WrongType, NoSuchKey, Overflow, Offset, TooLong, DbIndex}
+use Rattle.cmd_args.specs.declared.refusal.Refusal.TheVariants.{UnknownCommand, WordCount, NoWord, NotInScript}
+use Rattle.cmd_args.specs.declared.refusal.Refusal.TheVariants.{ReadOnlyScript, TooLarge, Syntax, NotInteger}
+use Rattle.cmd_args.specs.declared.refusal.Refusal.TheVariants.{ExpireTime, WrongType, NoSuchKey, Overflow, Offset}
+use Rattle.cmd_args.specs.declared.refusal.Refusal.TheVariants.{TooLong, DbIndex}
 use Rattle.cmd_args.specs.Table.{command}
 
 -- what the refusal of a word that names no command shows of it: its first 128 bytes

@@ -1,12 +1,20 @@
 -- The commands: what each is named, how many words it takes, and what it may do.
-use Rattle.std.specs.Prelude.{ℕ, ◌%◌, Bool, true, false, ◌==◌, nat_le, not, ◌&&◌, ◌||◌, List, [], ◌∷◌, Option, find, codes}
+use Rattle.std.specs.Prelude.{ℕ, ◌%◌, Bool, true, false, ◌==◌, nat_le, not, ◌&&◌, ◌||◌, List, [], ◌∷◌, Option, find}
+use Rattle.std.specs.Prelude.{codes}
 use Rattle.std.specs.Option.{option_map}
 use Rattle.std.specs.Str.{str_eq_ignore_ascii_case}
 use Rattle.cmd_args.specs.declared.commands.CmdId.{CmdId}
-use Rattle.cmd_args.specs.declared.commands.CmdId.TheVariants.{Ping, Echo, Select, Time, DbSize, FlushAll, FlushDb, Quit, Get, Set, SetNx, SetEx, PSetEx, GetSet, GetDel, GetEx, MGet, MSet, MSetNx, Append, StrLen, GetRange, SetRange, Incr, Decr, IncrBy, DecrBy, Del, Unlink, Exists, TypeOf, Keys, RandomKey, Rename, RenameNx, Expire, PExpire, ExpireAt, PExpireAt, Persist, PTtl, Ttl, PExpireTime, ExpireTime}
+use Rattle.cmd_args.specs.declared.commands.CmdId.TheVariants.{Ping, Echo, Select, Time, DbSize, FlushAll, FlushDb}
+use Rattle.cmd_args.specs.declared.commands.CmdId.TheVariants.{Quit, Get, Set, SetNx, SetEx, PSetEx, GetSet, GetDel}
+use Rattle.cmd_args.specs.declared.commands.CmdId.TheVariants.{GetEx, MGet, MSet, MSetNx, Append, StrLen, GetRange}
+use Rattle.cmd_args.specs.declared.commands.CmdId.TheVariants.{SetRange, Incr, Decr, IncrBy, DecrBy, Del, Unlink}
+use Rattle.cmd_args.specs.declared.commands.CmdId.TheVariants.{Exists, TypeOf, Keys, RandomKey, Rename, RenameNx}
+use Rattle.cmd_args.specs.declared.commands.CmdId.TheVariants.{Expire, PExpire, ExpireAt, PExpireAt, Persist, PTtl}
+use Rattle.cmd_args.specs.declared.commands.CmdId.TheVariants.{Ttl, PExpireTime, ExpireTime}
 use Rattle.cmd_args.specs.declared.commands.Row.{Row}
 
--- a command: its name in lower case, the least and the most words that it takes, the name counted, whether the words behind the
+-- a command: its name in lower case, the least and the most words that it takes, the name counted, whether the words
+-- behind the
 -- name come in pairs, and whether it writes, may stand in a script, and is for clients alone
 pub record Command : Type 0 where
   pub name : List ℕ
@@ -20,22 +28,54 @@ pub record Command : Type 0 where
 -- a command that only reads
 abbrev pub reads : List ℕ → ℕ → ℕ → Command
 reads name least most =
-    record { name = name; least = least; most = most; in_pairs = false; writes = false; in_script = true; client_only = false }
+    record {
+      name = name;
+      least = least;
+      most = most;
+      in_pairs = false;
+      writes = false;
+      in_script = true;
+      client_only = false;
+    }
 
 -- a command that may change the store
 abbrev pub writes : List ℕ → ℕ → ℕ → Command
 writes name least most =
-    record { name = name; least = least; most = most; in_pairs = false; writes = true; in_script = true; client_only = false }
+    record {
+      name = name;
+      least = least;
+      most = most;
+      in_pairs = false;
+      writes = true;
+      in_script = true;
+      client_only = false;
+    }
 
 -- one that takes pairs of words behind its name
 abbrev pub writes_pairs : List ℕ → ℕ → ℕ → Command
 writes_pairs name least most =
-    record { name = name; least = least; most = most; in_pairs = true; writes = true; in_script = true; client_only = false }
+    record {
+      name = name;
+      least = least;
+      most = most;
+      in_pairs = true;
+      writes = true;
+      in_script = true;
+      client_only = false;
+    }
 
 -- a command that a client alone may send
 abbrev pub serves_clients : List ℕ → ℕ → ℕ → Command
 serves_clients name least most =
-    record { name = name; least = least; most = most; in_pairs = false; writes = false; in_script = false; client_only = true }
+    record {
+      name = name;
+      least = least;
+      most = most;
+      in_pairs = false;
+      writes = false;
+      in_script = false;
+      client_only = true;
+    }
 
 -- where the manual sets no limit on the number of words
 abbrev pub any_number : ℕ
@@ -92,9 +132,11 @@ command ExpireTime = reads (codes "expiretime") 2 2
 unfoldable pub commands : List CmdId
 commands =
     Ping ∷ Echo ∷ Select ∷ Time ∷ DbSize ∷ FlushAll ∷ FlushDb ∷ Quit
-    ∷ Get ∷ Set ∷ SetNx ∷ SetEx ∷ PSetEx ∷ GetSet ∷ GetDel ∷ GetEx ∷ MGet ∷ MSet ∷ MSetNx ∷ Append ∷ StrLen ∷ GetRange ∷ SetRange
+    ∷ Get ∷ Set ∷ SetNx ∷ SetEx ∷ PSetEx ∷ GetSet ∷ GetDel ∷ GetEx ∷ MGet ∷ MSet ∷ MSetNx ∷ Append ∷ StrLen ∷ GetRange
+    ∷ SetRange
     ∷ Incr ∷ Decr ∷ IncrBy ∷ DecrBy
-    ∷ Del ∷ Unlink ∷ Exists ∷ TypeOf ∷ Keys ∷ RandomKey ∷ Rename ∷ RenameNx ∷ Expire ∷ PExpire ∷ ExpireAt ∷ PExpireAt ∷ Persist
+    ∷ Del ∷ Unlink ∷ Exists ∷ TypeOf ∷ Keys ∷ RandomKey ∷ Rename ∷ RenameNx ∷ Expire ∷ PExpire ∷ ExpireAt ∷ PExpireAt
+    ∷ Persist
     ∷ PTtl ∷ Ttl ∷ PExpireTime ∷ ExpireTime ∷ []
 
 -- a command's row, as the code sees it

@@ -19,7 +19,8 @@ pub fn a_name_is_found_in_letters_of_either_case()
 
 /// A row that a word finds is that of the command that the word names.
 pub fn a_row_that_is_found_is_its_commands()
-    ensures { (word : List ℕ) (row : Row) → row_named word ≡ Some row → (is_name word row.id ≡ true) × (row ≡ row_of row.id) }
+    ensures { (word : List ℕ) (row : Row) → row_named word ≡ Some row → (is_name word row.id ≡ true)
+        × (row ≡ row_of row.id) }
 {}
 
 /// A place that is drawn among so many is one of them.

@@ -1,5 +1,6 @@
 -- Commands that are refused, and the keys that a command leaves as they were.
-use Rattle.std.proofs.Common.{◌≡◌, ◌≢◌, ℕ, Bool, true, false, not, cond, ◌&&◌, ◌||◌, List, [], ◌∷◌, length, Option, Some, None, inl, refl, sym, ap, subst, ◌∙◌}
+use Rattle.std.proofs.Common.{◌≡◌, ◌≢◌, ℕ, Bool, true, false, not, cond, ◌&&◌, ◌||◌, List, [], ◌∷◌, length, Option}
+use Rattle.std.proofs.Common.{Some, None, inl, refl, sym, ap, subst, ◌∙◌}
 use Rattle.std.specs.List.{Contains}
 use Rattle.std.specs.FinMap as finite
 use Rattle.resp_reply.specs.declared.reply.Reply.TheVariants.{Fault}
@@ -11,7 +12,8 @@ use Rattle.cmd_args.specs.declared.commands.CmdId.{CmdId}
 use Rattle.cmd_args.specs.declared.commands.CmdId.TheVariants as command
 use Rattle.cmd_args.specs.declared.commands.Row.{Row}
 use Rattle.cmd_args.specs.declared.refusal.Refusal.{Refusal}
-use Rattle.cmd_args.specs.declared.refusal.Refusal.TheVariants.{Syntax, UnknownCommand, WordCount, NotInScript, ReadOnlyScript, TooLarge}
+use Rattle.cmd_args.specs.declared.refusal.Refusal.TheVariants.{Syntax, UnknownCommand, WordCount, NotInScript}
+use Rattle.cmd_args.specs.declared.refusal.Refusal.TheVariants.{ReadOnlyScript, TooLarge}
 use Rattle.cmd_args.specs.declared.turn.Mode.{Mode}
 use Rattle.cmd_args.specs.Keys.{keys_named}
 use Rattle.cmd_args.specs.Refusals.{refusal_text, shown}
@@ -25,37 +27,51 @@ use Rattle.cmd_string.specs.StringTable.{is_of_strings, string_row}
 use Rattle.cmd_keys.specs.Rows.{is_of_keys, key_row}
 use Rattle.cmd_keys.specs.Laws.{KeepsKeys}
 use Rattle.cmd_exec.specs.Worlds.{World, moved_by}
-use Rattle.cmd_exec.specs.Exec.{is_barred, may_only_read, is_within, reason, row_outcome, unless_refused, outcome_of, given, exec}
+use Rattle.cmd_exec.specs.Exec.{is_barred, may_only_read, is_within, reason, row_outcome, unless_refused, outcome_of}
+use Rattle.cmd_exec.specs.Exec.{given, exec}
 
 -- a refusal is what it is, also where it is settled what of it is kept
-settled_refusal : (world : World) (why : Refusal) → ◌≡◌ {A = Outcome} (record (refused why) { records = settled world.store [] }) (refused why)
+settled_refusal : (world : World) (why : Refusal)
+    → ◌≡◌ {A = Outcome} (record (refused why) { records = settled world.store [] }) (refused why)
 settled_refusal world why = ap (λ rs. record (refused why) { records = rs }) (settled-nothing world.store)
 
-pub exec-refused : (world : World) (mode : Mode) (words : List (List ℕ)) (why : Refusal) → given world mode words ≡ refused why → exec world mode words ≡ refused why
+pub exec-refused : (world : World) (mode : Mode) (words : List (List ℕ)) (why : Refusal)
+    → given world mode words ≡ refused why → exec world mode words ≡ refused why
 unfolding exec
 exec-refused world mode words why is =
     ap (λ (o : Outcome). record o { records = settled world.store o.records }) is ∙ settled_refusal world why
 
-given-known : (world : World) (mode : Mode) (name : List ℕ) (words : List (List ℕ)) (row : Row) → row_named name ≡ Some row
-    → given world mode (name ∷ words) ≡ unless_refused (reason mode row (name ∷ words)) (row_outcome world row.id (name ∷ words))
+given-known : (world : World) (mode : Mode) (name : List ℕ) (words : List (List ℕ)) (row : Row)
+    → row_named name ≡ Some row
+    → given world mode (name ∷ words)
+    ≡ unless_refused (reason mode row (name ∷ words)) (row_outcome world row.id (name ∷ words))
 given-known world mode name words row is = ap (λ r. outcome_of world mode r name (name ∷ words)) is
 
-pub exec-unknown : (world : World) (mode : Mode) (name : List ℕ) (words : List (List ℕ)) → row_named name ≡ None → exec world mode (name ∷ words) ≡ refused (UnknownCommand (shown name))
-exec-unknown world mode name words is = exec-refused world mode (name ∷ words) (UnknownCommand (shown name)) (ap (λ r. outcome_of world mode r name (name ∷ words)) is)
+pub exec-unknown : (world : World) (mode : Mode) (name : List ℕ) (words : List (List ℕ)) → row_named name ≡ None
+    → exec world mode (name ∷ words) ≡ refused (UnknownCommand (shown name))
+exec-unknown world mode name words is =
+    exec-refused world mode (name ∷ words) (UnknownCommand (shown name))
+    (ap (λ r. outcome_of world mode r name (name ∷ words)) is)
 
-pub exec-reason : (world : World) (mode : Mode) (name : List ℕ) (words : List (List ℕ)) (row : Row) (why : Refusal) → row_named name ≡ Some row
+pub exec-reason : (world : World) (mode : Mode) (name : List ℕ) (words : List (List ℕ)) (row : Row) (why : Refusal)
+    → row_named name ≡ Some row
     → reason mode row (name ∷ words) ≡ Some why → exec world mode (name ∷ words) ≡ refused why
 exec-reason world mode name words row why is e =
     exec-refused world mode (name ∷ words) why
     (given-known world mode name words row is ∙ ap (λ w. unless_refused w (row_outcome world row.id (name ∷ words))) e)
 
-pub exec-count : (world : World) (mode : Mode) (name : List ℕ) (words : List (List ℕ)) (row : Row) → row_named name ≡ Some row
+pub exec-count : (world : World) (mode : Mode) (name : List ℕ) (words : List (List ℕ)) (row : Row)
+    → row_named name ≡ Some row
     → fits row (length (name ∷ words)) ≡ false → exec world mode (name ∷ words) ≡ refused (WordCount row.id)
-exec-count world mode name words row is misfit = exec-reason world mode name words row (WordCount row.id) is (counted misfit)
+exec-count world mode name words row is misfit =
+    exec-reason world mode name words row (WordCount row.id) is (counted misfit)
   where
     counted : fits row (length (name ∷ words)) ≡ false → reason mode row (name ∷ words) ≡ Some (WordCount row.id)
     counted misfit =
-        ap (λ b. cond (not b) (Some (WordCount row.id)) (cond (is_barred mode row) (Some NotInScript) (cond (may_only_read mode && row.writes) (Some ReadOnlyScript) (cond (not (is_within (name ∷ words))) (Some TooLarge) None)))) misfit
+        ap (λ b. cond (not b) (Some (WordCount row.id))
+        (cond (is_barred mode row) (Some NotInScript)
+        (cond (may_only_read mode && row.writes) (Some ReadOnlyScript)
+        (cond (not (is_within (name ∷ words))) (Some TooLarge) None)))) misfit
 
 -- what follows from a fault
 abbrev Nothing : Outcome → Type 0
@@ -64,12 +80,16 @@ Nothing outcome = (outcome.records ≡ []) × (outcome.draws ≡ 0)
 abbrev Quiet : Outcome → Type 0
 Quiet outcome = (text : List ℕ) → outcome.reply ≡ Fault text → Nothing outcome
 
-module _ (of_strings : (store : Store) (now : ℕ) (id : CmdId) (words : List (List ℕ)) → Quiet (string_row store now id words))
-    (of_keys : (store : Store) (now draws : ℕ) (id : CmdId) (words : List (List ℕ)) → Quiet (key_row store now draws id words)) where
+module _ (of_strings : (store : Store) (now : ℕ) (id : CmdId) (words : List (List ℕ))
+    → Quiet (string_row store now id words))
+    (of_keys : (store : Store) (now draws : ℕ) (id : CmdId) (words : List (List ℕ))
+    → Quiet (key_row store now draws id words)) where
   row-quiet : (world : World) (id : CmdId) (words : List (List ℕ)) → Quiet (row_outcome world id words)
   unfolding row_outcome
   row-quiet world id words =
-      elim (is_of_strings id) as (λ b. Quiet (cond b (string_row world.store world.time id words) (key_row world.store world.time world.draws id words))) [
+      elim (is_of_strings id) as (λ b.
+      Quiet (cond b (string_row world.store world.time id words)
+      (key_row world.store world.time world.draws id words))) [
         | true ↦ of_strings world.store world.time id words
         | false ↦ of_keys world.store world.time world.draws id words
       ]
@@ -78,9 +98,11 @@ module _ (of_strings : (store : Store) (now : ℕ) (id : CmdId) (words : List (L
   unless-quiet (Some why) outcome quiet = λ text e. (refl, refl)
   unless-quiet None outcome quiet = quiet
 
-  named-quiet : (world : World) (mode : Mode) (row : Option Row) (name : List ℕ) (words : List (List ℕ)) → Quiet (outcome_of world mode row name words)
+  named-quiet : (world : World) (mode : Mode) (row : Option Row) (name : List ℕ) (words : List (List ℕ))
+      → Quiet (outcome_of world mode row name words)
   named-quiet world mode None name words = λ text e. (refl, refl)
-  named-quiet world mode (Some row) name words = unless-quiet (reason mode row words) (row_outcome world row.id words) (row-quiet world row.id words)
+  named-quiet world mode (Some row) name words =
+      unless-quiet (reason mode row words) (row_outcome world row.id words) (row-quiet world row.id words)
 
   given-quiet : (world : World) (mode : Mode) (words : List (List ℕ)) → Quiet (given world mode words)
   given-quiet world mode [] = λ text e. (refl, refl)
@@ -92,12 +114,18 @@ module _ (of_strings : (store : Store) (now : ℕ) (id : CmdId) (words : List (L
       let nothing = given-quiet world mode words text e in
       (ap (settled world.store) nothing.0 ∙ settled-nothing world.store, nothing.1)
 
-  pub exec-nothing : (world : World) (mode : Mode) (words : List (List ℕ)) (text : List ℕ) → (exec world mode words).reply ≡ Fault text
-      → ((exec world mode words).records ≡ []) × ((exec world mode words).draws ≡ 0) × (moved_by world (exec world mode words) ≡ world)
+  pub exec-nothing : (world : World) (mode : Mode) (words : List (List ℕ)) (text : List ℕ)
+      → (exec world mode words).reply ≡ Fault text
+      → ((exec world mode words).records ≡ []) × ((exec world mode words).draws ≡ 0)
+      × (moved_by world (exec world mode words) ≡ world)
   exec-nothing world mode words text e =
       let nothing = exec-quiet world mode words text e in
       let same : ◌≡◌ {A = World} (moved_by world (exec world mode words)) world =
-      λ i. record { store = applied world.store (nothing.0 i); time = world.time; draws = state_after world.draws (nothing.1 i) } in
+      λ i. record {
+        store = applied world.store (nothing.0 i);
+        time = world.time;
+        draws = state_after world.draws (nothing.1 i);
+      } in
       (nothing.0, nothing.1, same)
 
 -- no command with its fewest words is a syntax error
@@ -108,15 +136,21 @@ one_of_both _ differ = refl
 keys_of_others : (id : CmdId) → is_of_strings id ≡ false → id ≢ command.Quit → is_of_keys id ≡ true
 keys_of_others id e differ = sym (ap (λ b. b || is_of_keys id) e) ∙ one_of_both id differ
 
-reason-ends : (mode : Mode) (row : Row) (words : List (List ℕ)) (why : Refusal) → reason mode row words ≡ Some why → IsNoSyntax why
+reason-ends : (mode : Mode) (row : Row) (words : List (List ℕ)) (why : Refusal) → reason mode row words ≡ Some why
+    → IsNoSyntax why
 reason-ends mode row words why e =
     each (fits row (length words)) (is_barred mode row) (may_only_read mode && row.writes) (is_within words) e
   where
     each : (fit barred reads within : Bool)
-        → cond (not fit) (Some (WordCount row.id)) (cond barred (Some NotInScript) (cond reads (Some ReadOnlyScript) (cond (not within) (Some TooLarge) None))) ≡ Some why → IsNoSyntax why
-    each false barred reads within e = let same : WordCount row.id ≡ why = cc in subst IsNoSyntax same (no_syntax (WordCount row.id) refl)
-    each true true reads within e = let same : NotInScript ≡ why = cc in subst IsNoSyntax same (no_syntax NotInScript refl)
-    each true false true within e = let same : ReadOnlyScript ≡ why = cc in subst IsNoSyntax same (no_syntax ReadOnlyScript refl)
+        → cond (not fit) (Some (WordCount row.id))
+        (cond barred (Some NotInScript)
+        (cond reads (Some ReadOnlyScript) (cond (not within) (Some TooLarge) None))) ≡ Some why → IsNoSyntax why
+    each false barred reads within e = let same : WordCount row.id ≡ why = cc in
+        subst IsNoSyntax same (no_syntax (WordCount row.id) refl)
+    each true true reads within e = let same : NotInScript ≡ why = cc in
+        subst IsNoSyntax same (no_syntax NotInScript refl)
+    each true false true within e = let same : ReadOnlyScript ≡ why = cc in
+        subst IsNoSyntax same (no_syntax ReadOnlyScript refl)
     each true false false false e = let same : TooLarge ≡ why = cc in subst IsNoSyntax same (no_syntax TooLarge refl)
     each true false false true e = absurd (cc)
 
@@ -126,58 +160,77 @@ NoSyntaxError outcome = outcome.reply ≢ Fault (refusal_text Syntax)
 refused-no_syntax : (why : Refusal) → IsNoSyntax why → NoSyntaxError (refused why)
 refused-no_syntax why is = ends-no_syntax (refused why) (inl (why, is, refl))
 
-module _ (of_strings : (store : Store) (now : ℕ) (id : CmdId) (words : List (List ℕ)) → is_of_strings id ≡ true → length words ≡ (command_of id).least → NoSyntaxError (string_row store now id words))
-    (of_keys : (store : Store) (now draws : ℕ) (id : CmdId) (words : List (List ℕ)) → is_of_keys id ≡ true → length words ≡ (command_of id).least
+module _ (of_strings : (store : Store) (now : ℕ) (id : CmdId) (words : List (List ℕ)) → is_of_strings id ≡ true
+    → length words ≡ (command_of id).least → NoSyntaxError (string_row store now id words))
+    (of_keys : (store : Store) (now draws : ℕ) (id : CmdId) (words : List (List ℕ)) → is_of_keys id ≡ true
+    → length words ≡ (command_of id).least
     → NoSyntaxError (key_row store now draws id words)) where
-  row-carried : (world : World) (id : CmdId) (words : List (List ℕ)) → id ≢ command.Quit → length words ≡ (command_of id).least → NoSyntaxError (row_outcome world id words)
+  row-carried : (world : World) (id : CmdId) (words : List (List ℕ)) → id ≢ command.Quit
+      → length words ≡ (command_of id).least → NoSyntaxError (row_outcome world id words)
   unfolding row_outcome
   row-carried world id words differ fewest = by_kind (is_of_strings id) refl
     where
-      by_kind : (b : Bool) → is_of_strings id ≡ b → NoSyntaxError (cond b (string_row world.store world.time id words) (key_row world.store world.time world.draws id words))
+      by_kind : (b : Bool) → is_of_strings id ≡ b
+          → NoSyntaxError (cond b (string_row world.store world.time id words)
+          (key_row world.store world.time world.draws id words))
       by_kind true is = of_strings world.store world.time id words is fewest
       by_kind false is = of_keys world.store world.time world.draws id words (keys_of_others id is differ) fewest
 
-  given-carried : (world : World) (mode : Mode) (row : Row) (words : List (List ℕ)) → row.id ≢ command.Quit → length words ≡ (command_of row.id).least
+  given-carried : (world : World) (mode : Mode) (row : Row) (words : List (List ℕ)) → row.id ≢ command.Quit
+      → length words ≡ (command_of row.id).least
       → NoSyntaxError (unless_refused (reason mode row words) (row_outcome world row.id words))
   given-carried world mode row words differ fewest = by_reason (reason mode row words) refl
     where
-      by_reason : (why : Option Refusal) → reason mode row words ≡ why → NoSyntaxError (unless_refused why (row_outcome world row.id words))
+      by_reason : (why : Option Refusal) → reason mode row words ≡ why
+          → NoSyntaxError (unless_refused why (row_outcome world row.id words))
       by_reason (Some why) is = refused-no_syntax why (reason-ends mode row words why is)
       by_reason None is = row-carried world row.id words differ fewest
 
-  pub exec-carried : (world : World) (mode : Mode) (name : List ℕ) (words : List (List ℕ)) (row : Row) → row_named name ≡ Some row → row.id ≢ command.Quit
+  pub exec-carried : (world : World) (mode : Mode) (name : List ℕ) (words : List (List ℕ)) (row : Row)
+      → row_named name ≡ Some row → row.id ≢ command.Quit
       → length (name ∷ words) ≡ row.least → NoSyntaxError (exec world mode (name ∷ words))
   unfolding exec
   exec-carried world mode name words row is differ fewest =
       let own = its_own name row is in
       let least : row.least ≡ (command_of row.id).least = ap (λ (r : Row). r.least) own.1 in
-      subst NoSyntaxError (sym (given-known world mode name words row is)) (given-carried world mode row (name ∷ words) differ (fewest ∙ least))
+      subst NoSyntaxError (sym (given-known world mode name words row is))
+      (given-carried world mode row (name ∷ words) differ (fewest ∙ least))
 
 -- the keys that a command does not name
-module _ (of_strings : (store : Store) (now : ℕ) (id : CmdId) (words : List (List ℕ)) (other : List ℕ) → (Contains (keys_named id words) other → ⊥)
+module _ (of_strings : (store : Store) (now : ℕ) (id : CmdId) (words : List (List ℕ)) (other : List ℕ)
+    → (Contains (keys_named id words) other → ⊥)
     → finite.get (applied store (string_row store now id words).records) other ≡ finite.get store other)
-    (of_keys : (store : Store) (now draws : ℕ) (id : CmdId) (words : List (List ℕ)) (key : List ℕ) → KeepsKeys id → (Contains (keys_named id words) key → ⊥)
+    (of_keys : (store : Store) (now draws : ℕ) (id : CmdId) (words : List (List ℕ)) (key : List ℕ) → KeepsKeys id
+    → (Contains (keys_named id words) key → ⊥)
     → finite.get (applied store (key_row store now draws id words).records) key ≡ finite.get store key)
-    (settles : (store : Store) (records : List Record) → applied store (settled store records) ≡ applied store records) where
+    (settles : (store : Store) (records : List Record)
+    → applied store (settled store records) ≡ applied store records) where
   abbrev Leaves : World → List ℕ → Outcome → Type 0
   Leaves world key outcome = finite.get (applied world.store outcome.records) key ≡ finite.get world.store key
 
-  row-leaves : (world : World) (id : CmdId) (words : List (List ℕ)) (key : List ℕ) → KeepsKeys id → (Contains (keys_named id words) key → ⊥) → Leaves world key (row_outcome world id words)
+  row-leaves : (world : World) (id : CmdId) (words : List (List ℕ)) (key : List ℕ) → KeepsKeys id
+      → (Contains (keys_named id words) key → ⊥) → Leaves world key (row_outcome world id words)
   unfolding row_outcome
   row-leaves world id words key keeps none =
-      elim (is_of_strings id) as (λ b. Leaves world key (cond b (string_row world.store world.time id words) (key_row world.store world.time world.draws id words))) [
+      elim (is_of_strings id) as (λ b.
+      Leaves world key (cond b (string_row world.store world.time id words)
+      (key_row world.store world.time world.draws id words))) [
         | true ↦ of_strings world.store world.time id words key none
         | false ↦ of_keys world.store world.time world.draws id words key keeps none
       ]
 
-  unless-leaves : (world : World) (key : List ℕ) (why : Option Refusal) (outcome : Outcome) → Leaves world key outcome → Leaves world key (unless_refused why outcome)
+  unless-leaves : (world : World) (key : List ℕ) (why : Option Refusal) (outcome : Outcome) → Leaves world key outcome
+      → Leaves world key (unless_refused why outcome)
   unless-leaves world key (Some why) outcome leaves = refl
   unless-leaves world key None outcome leaves = leaves
 
-  pub exec-leaves : (world : World) (mode : Mode) (name : List ℕ) (words : List (List ℕ)) (row : Row) (key : List ℕ) → row_named name ≡ Some row → KeepsKeys row.id
-      → (Contains (keys_named row.id (name ∷ words)) key → ⊥) → finite.get (moved_by world (exec world mode (name ∷ words))).store key ≡ finite.get world.store key
+  pub exec-leaves : (world : World) (mode : Mode) (name : List ℕ) (words : List (List ℕ)) (row : Row) (key : List ℕ)
+      → row_named name ≡ Some row → KeepsKeys row.id
+      → (Contains (keys_named row.id (name ∷ words)) key → ⊥)
+      → finite.get (moved_by world (exec world mode (name ∷ words))).store key ≡ finite.get world.store key
   unfolding exec
   exec-leaves world mode name words row key is keeps none =
       ap (λ (s : Store). finite.get s key) (settles world.store (given world mode (name ∷ words)).records)
       ∙ subst (Leaves world key) (sym (given-known world mode name words row is))
-      (unless-leaves world key (reason mode row (name ∷ words)) (row_outcome world row.id (name ∷ words)) (row-leaves world row.id (name ∷ words) key keeps none))
+      (unless-leaves world key (reason mode row (name ∷ words)) (row_outcome world row.id (name ∷ words))
+      (row-leaves world row.id (name ∷ words) key keeps none))

@@ -1,5 +1,6 @@
 -- What is known of words that are not refused.
-use Rattle.std.proofs.Common.{◌≡◌, ℕ, nat_le, Bool, true, false, not, cond, ◌&&◌, List, [], ◌∷◌, Some, None, length, sum_by, refl}
+use Rattle.std.proofs.Common.{◌≡◌, ℕ, nat_le, Bool, true, false, not, cond, ◌&&◌, List, [], ◌∷◌, Some, None, length}
+use Rattle.std.proofs.Common.{sum_by, refl}
 use Rattle.std.specs.List.{AllByRecursion, list_all}
 use Rattle.std.proofs.lemmas.Bool.{leb-true}
 use Rattle.ks_space.specs.Store.{IsShort}
@@ -16,7 +17,8 @@ both true b e = (refl, e)
 both false b e = absurd (cc)
 
 none_of : (fit barred reads within : Bool) (a b c d : Refusal)
-    → cond (not fit) (Some a) (cond barred (Some b) (cond reads (Some c) (cond (not within) (Some d) None))) ≡ None → within ≡ true
+    → cond (not fit) (Some a) (cond barred (Some b) (cond reads (Some c) (cond (not within) (Some d) None))) ≡ None
+    → within ≡ true
 none_of false barred reads within a b c d e = absurd (cc)
 none_of true true reads within a b c d e = absurd (cc)
 none_of true false true within a b c d e = absurd (cc)
@@ -28,12 +30,16 @@ short word e = leb-true (length word) 16777216 e
 
 all_short : (words : List (List ℕ)) → list_all is_short words ≡ true → AllByRecursion IsShort words
 all_short [] e = tt
-all_short (word ∷ words) e = let each = both (is_short word) (list_all is_short words) e in (short word each.0, all_short words each.1)
+all_short (word ∷ words) e = let each = both (is_short word) (list_all is_short words) e in
+    (short word each.0, all_short words each.1)
 
 -- words that are not refused are short
-pub words_short : (mode : Mode) (row : Row) (words : List (List ℕ)) → reason mode row words ≡ None → AllByRecursion IsShort words
+pub words_short : (mode : Mode) (row : Row) (words : List (List ℕ)) → reason mode row words ≡ None
+    → AllByRecursion IsShort words
 words_short mode row words e =
-    let within = none_of (fits row (length words)) (is_barred mode row) (may_only_read mode && row.writes) (is_within words) (WordCount row.id) NotInScript ReadOnlyScript TooLarge e in
-    let sized = both (nat_le (length words) 65536) (list_all is_short words && nat_le (sum_by length words) 67108864) within in
+    let within = none_of (fits row (length words)) (is_barred mode row) (may_only_read mode && row.writes)
+    (is_within words) (WordCount row.id) NotInScript ReadOnlyScript TooLarge e in
+    let sized = both (nat_le (length words) 65536)
+    (list_all is_short words && nat_le (sum_by length words) 67108864) within in
     let each = both (list_all is_short words) (nat_le (sum_by length words) 67108864) sized.1 in
     all_short words each.0

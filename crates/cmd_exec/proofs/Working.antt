@@ -12,32 +12,47 @@ use Rattle.cmd_rows.specs.Deeds.{Did}
 use Rattle.cmd_exec.specs.Worlds.{World, DeskState, moved_by, worked}
 use Rattle.cmd_exec.specs.Exec.{given, exec}
 
-pub exec-reply : (world : World) (mode : Mode) (words : List (List ℕ)) → (exec world mode words).reply ≡ (given world mode words).reply
+pub exec-reply : (world : World) (mode : Mode) (words : List (List ℕ))
+    → (exec world mode words).reply ≡ (given world mode words).reply
 unfolding exec
 exec-reply world mode words = refl
 
-exec-draws : (world : World) (mode : Mode) (words : List (List ℕ)) → (exec world mode words).draws ≡ (given world mode words).draws
+exec-draws : (world : World) (mode : Mode) (words : List (List ℕ))
+    → (exec world mode words).draws ≡ (given world mode words).draws
 unfolding exec
 exec-draws world mode words = refl
 
-exec-records : (world : World) (mode : Mode) (words : List (List ℕ)) → (exec world mode words).records ≡ settled world.store (given world mode words).records
+exec-records : (world : World) (mode : Mode) (words : List (List ℕ))
+    → (exec world mode words).records ≡ settled world.store (given world mode words).records
 unfolding exec
 exec-records world mode words = refl
 
 -- what carrying a command out leaves is the world that `exec` says
-pub did_moved : (world : World) (mode : Mode) (words : List (List ℕ)) (reply : Reply) (after : Store) (old new : List Record) (drawn draws : ℕ)
-    → Did world.store (given world mode words) reply after old new drawn → draws ≡ state_after world.draws (given world mode words).draws
-    → ◌≡◌ {A = World} (record { store = after; time = world.time; draws = draws }) (moved_by world (exec world mode words))
+pub did_moved : (world : World) (mode : Mode) (words : List (List ℕ)) (reply : Reply) (after : Store)
+    (old new : List Record) (drawn draws : ℕ)
+    → Did world.store (given world mode words) reply after old new drawn
+    → draws ≡ state_after world.draws (given world mode words).draws
+    → ◌≡◌ {A = World} (record { store = after; time = world.time; draws = draws })
+    (moved_by world (exec world mode words))
 did_moved world mode words reply after old new drawn draws did same =
     let store_is : after ≡ applied world.store (exec world mode words).records =
-    did.store_is ∙ sym (settled-same world.store (given world mode words).records) ∙ ap (applied world.store) (sym (exec-records world mode words)) in
-    let draws_are : draws ≡ state_after world.draws (exec world mode words).draws = same ∙ ap (state_after world.draws) (sym (exec-draws world mode words)) in
+    did.store_is ∙ sym (settled-same world.store (given world mode words).records)
+    ∙ ap (applied world.store) (sym (exec-records world mode words)) in
+    let draws_are : draws ≡ state_after world.draws (exec world mode words).draws = same
+    ∙ ap (state_after world.draws) (sym (exec-draws world mode words)) in
     λ i. record { store = store_is i; time = world.time; draws = draws_are i }
 
-pub did_worked : (desk : DeskState) (words : List (List ℕ)) (reply : Reply) (after : Store) (new : List Record) (drawn draws : ℕ)
-    → Did desk.world.store (given desk.world desk.mode words) reply after desk.effects new drawn → draws ≡ state_after desk.world.draws (given desk.world desk.mode words).draws
-    → ◌≡◌ {A = DeskState} (record { world = record { store = after; time = desk.world.time; draws = draws }; mode = desk.mode; effects = new }) (worked desk (exec desk.world desk.mode words))
+pub did_worked : (desk : DeskState) (words : List (List ℕ)) (reply : Reply) (after : Store) (new : List Record)
+    (drawn draws : ℕ)
+    → Did desk.world.store (given desk.world desk.mode words) reply after desk.effects new drawn
+    → draws ≡ state_after desk.world.draws (given desk.world desk.mode words).draws
+    → ◌≡◌ {A = DeskState} (record {
+      world = record { store = after; time = desk.world.time; draws = draws };
+      mode = desk.mode;
+      effects = new;
+    }) (worked desk (exec desk.world desk.mode words))
 did_worked desk words reply after new drawn draws did same =
     let moved = did_moved desk.world desk.mode words reply after desk.effects new drawn draws did same in
-    let effects_are : new ≡ desk.effects ++ (exec desk.world desk.mode words).records = did.records_are ∙ ap (λ rs. desk.effects ++ rs) (sym (exec-records desk.world desk.mode words)) in
+    let effects_are : new ≡ desk.effects ++ (exec desk.world desk.mode words).records = did.records_are
+    ∙ ap (λ rs. desk.effects ++ rs) (sym (exec-records desk.world desk.mode words)) in
     λ i. record { world = moved i; mode = desk.mode; effects = effects_are i }

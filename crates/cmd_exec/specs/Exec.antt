@@ -1,10 +1,12 @@
 -- One command: what it answers and does (Redis manual, command by command), and the order in which it is refused.
-use Rattle.std.specs.Prelude.{ℕ, nat_le, Bool, true, false, not, ◌&&◌, ◌||◌, if◌then◌else◌, List, [], ◌∷◌, Option, Some, None, length, sum_by}
+use Rattle.std.specs.Prelude.{ℕ, nat_le, Bool, true, false, not, ◌&&◌, ◌||◌, if◌then◌else◌, List, [], ◌∷◌, Option}
+use Rattle.std.specs.Prelude.{Some, None, length, sum_by}
 use Rattle.std.specs.List.{list_all}
 use Rattle.cmd_args.specs.declared.commands.CmdId.{CmdId}
 use Rattle.cmd_args.specs.declared.commands.Row.{Row}
 use Rattle.cmd_args.specs.declared.refusal.Refusal.{Refusal}
-use Rattle.cmd_args.specs.declared.refusal.Refusal.TheVariants.{NoWord, UnknownCommand, WordCount, NotInScript, ReadOnlyScript, TooLarge}
+use Rattle.cmd_args.specs.declared.refusal.Refusal.TheVariants.{NoWord, UnknownCommand, WordCount, NotInScript}
+use Rattle.cmd_args.specs.declared.refusal.Refusal.TheVariants.{ReadOnlyScript, TooLarge}
 use Rattle.cmd_args.specs.declared.turn.Mode.{Mode}
 use Rattle.cmd_args.specs.declared.turn.Mode.TheVariants.{Client, Script, ScriptRo}
 use Rattle.cmd_args.specs.Table.{row_named, fits}
@@ -31,7 +33,8 @@ may_only_read ScriptRo = true
 abbrev pub is_within : List (List ℕ) → Bool
 is_within words = nat_le (length words) 65536 && (list_all is_short words && nat_le (sum_by length words) 67108864)
 
--- why a command that is known is refused before it is carried out: for the number of its words, for where it was called,
+-- why a command that is known is refused before it is carried out: for the number of its words, for where it was
+-- called,
 -- for what it may do there, for its size
 abbrev pub reason : Mode → Row → List (List ℕ) → Option Refusal
 reason mode row words =
@@ -43,7 +46,8 @@ reason mode row words =
 -- what the command itself gives
 unfoldable pub row_outcome : World → CmdId → List (List ℕ) → Outcome
 row_outcome world id words =
-    if is_of_strings id then string_row world.store world.time id words else key_row world.store world.time world.draws id words
+    if is_of_strings id then string_row world.store world.time id words else key_row world.store world.time
+    world.draws id words
 
 abbrev pub unless_refused : Option Refusal → Outcome → Outcome
 unless_refused (Some why) outcome = refused why
@@ -60,4 +64,6 @@ given world mode (name ∷ words) = outcome_of world mode (row_named name) name 
 
 -- one command: its reply, its records, which are none exactly where the store stays the same, and its draws
 unfoldable pub exec : World → Mode → List (List ℕ) → Outcome
-exec world mode words = record (given world mode words) { records = settled world.store (given world mode words).records }
+exec world mode words = record (given world mode words) {
+  records = settled world.store (given world mode words).records;
+}

@@ -27,14 +27,23 @@ empty_world = record { store = finite.empty; time = 0; draws = 0 }
 abbrev pub IsWorld : World → Type 0
 IsWorld world = IsStore world.store × IsTimely world.store world.time
 
--- a turn begins: its time is the greater of the last time and the clock, the keys whose deadline is past leave, and draws
+-- a turn begins: its time is the greater of the last time and the clock, the keys whose deadline is past leave, and
+-- draws
 -- begin at the turn's word
 abbrev pub begun : World → ℕ → ℕ → World
-begun world clock word = record { store = purged world.store (max world.time clock); time = max world.time clock; draws = word }
+begun world clock word = record {
+  store = purged world.store (max world.time clock);
+  time = max world.time clock;
+  draws = word;
+}
 
 -- the world behind an outcome: its records are carried out, and its draws taken
 abbrev pub moved_by : World → Outcome → World
-moved_by world outcome = record { store = applied world.store outcome.records; time = world.time; draws = state_after world.draws outcome.draws }
+moved_by world outcome = record {
+  store = applied world.store outcome.records;
+  time = world.time;
+  draws = state_after world.draws outcome.draws;
+}
 
 -- a desk at which commands are carried out one by one: the world, who calls them, and the records of those carried out
 pub record DeskState : Type 0 where
@@ -58,5 +67,6 @@ world_code =
 
 abbrev pub desk_code : Coded DeskState
 desk_code =
-    code_by (World × (Mode × List Record)) (coded× world_code (coded× mode.the_row.coded (coded_list effect.the_row.coded)))
+    code_by (World × (Mode × List Record))
+    (coded× world_code (coded× mode.the_row.coded (coded_list effect.the_row.coded)))
     (λ d. (d.world, (d.mode, d.effects))) (λ p. record { world = p.0; mode = p.1.0; effects = p.1.1 }) (λ _. refl)

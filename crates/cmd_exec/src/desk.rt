@@ -14,8 +14,8 @@ use rs_base::{NoMemory, Words};
 use std::alloc::Global;
 use std::marker::Model;
 
-/// A desk at which commands are carried out one by one, each as a whole: the store, the time of the turn, who calls, the
-/// draws, and the records of what was done. No deadline of its store is below its time.
+/// A desk at which commands are carried out one by one, each as a whole: the store, the time of the turn, who calls,
+/// the draws, and the records of what was done. No deadline of its store is below its time.
 #[derive(Drop)]
 pub struct Desk {
     alloc: Global,
@@ -34,7 +34,11 @@ impl Model for Desk {
 
     ghost coded = { desk_code };
 
-    ghost view = { λ d. record { world = record { store = d.space; time = d.ctx.time; draws = d.draws }; mode = d.mode; effects = d.effects } };
+    ghost view = { λ d. record {
+      world = record { store = d.space; time = d.ctx.time; draws = d.draws };
+      mode = d.mode;
+      effects = d.effects;
+    } };
 
     ghost invariant = { λ d. IsWorld (record { store = d.space; time = d.ctx.time; draws = d.draws }) };
 }
@@ -61,9 +65,9 @@ impl Desk {
         &self.space
     }
 
-    /// A turn begins: its time is the greater of the last one and the clock, draws begin at its word, and the keys leave whose
-    /// deadline is below its time: these are answered, in the order of their deadlines and then of their bytes. After
-    /// `NoMemory` the store is empty.
+    /// A turn begins: its time is the greater of the last one and the clock, draws begin at its word, and the keys
+    /// leave whose deadline is below its time: these are answered, in the order of their deadlines and then of their
+    /// bytes. After `NoMemory` the store is empty.
     pub fn begin(&mut self, clock: u64, word: u64) -> Result<Words, NoMemory>
         ensures keys { IfOk result (λ keys. keys ≡ gone self.old.world.store (max self.old.world.time clock)) }
         ensures desk { OnOk result (self.new ≡ record self.old { world = begun self.old.world clock word }) }
@@ -82,8 +86,8 @@ impl Desk {
         }
     }
 
-    /// Carries out one command, or refuses it: its reply is the fault then, and nothing is done. Adds the records of what it
-    /// did. After `NoMemory` the store is empty, and no records are kept.
+    /// Carries out one command, or refuses it: its reply is the fault then, and nothing is done. Adds the records of
+    /// what it did. After `NoMemory` the store is empty, and no records are kept.
     pub fn exec(&mut self, words: &Words) -> Result<Reply, NoMemory>
         ensures reply { IfOk result (λ reply. reply ≡ (exec self.old.world self.old.mode words.now).reply) }
         ensures desk { OnOk result (self.new ≡ worked self.old (exec self.old.world self.old.mode words.now)) }

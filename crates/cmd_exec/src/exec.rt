@@ -22,7 +22,8 @@ const MAX_WORDS: usize = 65_536;
 
 const MAX_BYTES: usize = 67_108_864;
 
-/// Carries out one command on a store, or refuses it. After `NoMemory` the store and the effects are only good for dropping.
+/// Carries out one command on a store, or refuses it. After `NoMemory` the store and the effects are only good for
+/// dropping.
 pub fn carry_out(
     alloc: Global,
     space: &mut Space,
@@ -32,9 +33,13 @@ pub fn carry_out(
     draws: &mut Draws,
     effects: &mut Effects,
 ) -> Result<Reply, NoMemory>
-    ensures did { IfOk result (λ reply. Did space.old (given (record { store = space.old; time = ctx.now.time; draws = draws.old }) mode words.now) reply space.new effects.old effects.new
+    ensures did { IfOk result (λ reply.
+        Did space.old (given (record { store = space.old; time = ctx.now.time; draws = draws.old }) mode words.now)
+        reply space.new effects.old effects.new
         (given (record { store = space.old; time = ctx.now.time; draws = draws.old }) mode words.now).draws) }
-    ensures draws { OnOk result (draws.new ≡ state_after draws.old (given (record { store = space.old; time = ctx.now.time; draws = draws.old }) mode words.now).draws) }
+    ensures draws { OnOk result (draws.new
+        ≡ state_after draws.old (given (record { store = space.old; time = ctx.now.time; draws = draws.old }) mode
+        words.now).draws) }
 {
     let Some(name) = words.get(0) else {
         return refuse(alloc, &Refusal::NoWord);
@@ -120,9 +125,14 @@ fn run(
     effects: &mut Effects,
 ) -> Result<Reply, NoMemory>
     requires { AllByRecursion IsShort words.now }
-    ensures did { IfOk result (λ reply. Did space.old (row_outcome (record { store = space.old; time = ctx.now.time; draws = draws.old }) row.now.id words.now) reply space.new effects.old effects.new
-        (row_outcome (record { store = space.old; time = ctx.now.time; draws = draws.old }) row.now.id words.now).draws) }
-    ensures draws { OnOk result (draws.new ≡ state_after draws.old (row_outcome (record { store = space.old; time = ctx.now.time; draws = draws.old }) row.now.id words.now).draws) }
+    ensures did { IfOk result (λ reply.
+        Did space.old (row_outcome (record { store = space.old; time = ctx.now.time; draws = draws.old }) row.now.id
+        words.now) reply space.new effects.old effects.new
+        (row_outcome (record { store = space.old; time = ctx.now.time; draws = draws.old }) row.now.id
+        words.now).draws) }
+    ensures draws { OnOk result (draws.new
+        ≡ state_after draws.old (row_outcome
+        (record { store = space.old; time = ctx.now.time; draws = draws.old }) row.now.id words.now).draws) }
 {
     if is_of_strings(row.id) {
         run_string(alloc, space, ctx, row, words, draws, effects)

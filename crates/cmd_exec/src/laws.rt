@@ -27,14 +27,16 @@ use fx_record::{
     records_keep_to_the_limits, records_keep_to_the_time, settled_records_lead_to_the_same_store,
 };
 
-/// At the beginning of a turn and behind every command, the store is within its limits and no deadline in it is past. The
-/// records of a command are within the limits, give no deadline that is past, and are none exactly where the store stays the
-/// same.
+/// At the beginning of a turn and behind every command, the store is within its limits and no deadline in it is past.
+/// The records of a command are within the limits, give no deadline that is past, and are none exactly where the
+/// store stays the same.
 pub fn commands_keep_the_world()
     ensures empty { IsWorld empty_world }
     ensures begun { (world : World) (clock word : ℕ) → IsWorld world → IsWorld (begun world clock word) }
-    ensures command { (world : World) (mode : Mode) (words : List (List ℕ)) → IsWorld world → IsWorld (moved_by world (exec world mode words)) }
-    ensures records { (world : World) (mode : Mode) (words : List (List ℕ)) → IsWorld world → AreTimelyWithin world.time (exec world mode words).records }
+    ensures command { (world : World) (mode : Mode) (words : List (List ℕ)) → IsWorld world
+        → IsWorld (moved_by world (exec world mode words)) }
+    ensures records { (world : World) (mode : Mode) (words : List (List ℕ)) → IsWorld world
+        → AreTimelyWithin world.time (exec world mode words).records }
     ensures none { (world : World) (mode : Mode) (words : List (List ℕ))
         → ((exec world mode words).records ≡ []) ↔ (applied world.store (exec world mode words).records ≡ world.store) }
 {
@@ -45,38 +47,46 @@ pub fn commands_keep_the_world()
     settled_records_lead_to_the_same_store();
 }
 
-/// A command whose reply is a fault does nothing: it has no records and takes no draws, and the world stays as it was. Refused is
-/// one without a word, one that the table does not name, one with a number of words that it does not take, and one that `reason`
-/// refuses for where it is called from, for what it may do there, or for its size.
+/// A command whose reply is a fault does nothing: it has no records and takes no draws, and the world stays as it
+/// was. Refused is one without a word, one that the table does not name, one with a number of words that it does not
+/// take, and one that `reason` refuses for where it is called from, for what it may do there, or for its size.
 pub fn a_refused_command_does_nothing()
-    ensures nothing { (world : World) (mode : Mode) (words : List (List ℕ)) (text : List ℕ) → (exec world mode words).reply ≡ Reply.Fault text
-        → ((exec world mode words).records ≡ []) × ((exec world mode words).draws ≡ 0) × (moved_by world (exec world mode words) ≡ world) }
+    ensures nothing { (world : World) (mode : Mode) (words : List (List ℕ)) (text : List ℕ)
+        → (exec world mode words).reply ≡ Reply.Fault text
+        → ((exec world mode words).records ≡ []) × ((exec world mode words).draws ≡ 0)
+        × (moved_by world (exec world mode words) ≡ world) }
     ensures no_word { (world : World) (mode : Mode) → exec world mode [] ≡ refused Refusal.NoWord }
     ensures unknown { (world : World) (mode : Mode) (name : List ℕ) (words : List (List ℕ)) → row_named name ≡ None
         → exec world mode (name ∷ words) ≡ refused (Refusal.UnknownCommand (shown name)) }
-    ensures word_count { (world : World) (mode : Mode) (name : List ℕ) (words : List (List ℕ)) (row : Row) → row_named name ≡ Some row
-        → fits row (length (name ∷ words)) ≡ false → exec world mode (name ∷ words) ≡ refused (Refusal.WordCount row.id) }
-    ensures reasons { (world : World) (mode : Mode) (name : List ℕ) (words : List (List ℕ)) (row : Row) (why : Refusal) → row_named name ≡ Some row
+    ensures word_count { (world : World) (mode : Mode) (name : List ℕ) (words : List (List ℕ)) (row : Row)
+        → row_named name ≡ Some row
+        → fits row (length (name ∷ words)) ≡ false
+        → exec world mode (name ∷ words) ≡ refused (Refusal.WordCount row.id) }
+    ensures reasons { (world : World) (mode : Mode) (name : List ℕ) (words : List (List ℕ)) (row : Row)
+        (why : Refusal) → row_named name ≡ Some row
         → reason mode row (name ∷ words) ≡ Some why → exec world mode (name ∷ words) ≡ refused why }
 {
     a_fault_does_nothing_to_strings();
     a_fault_does_nothing_to_keys();
 }
 
-/// Each command of the table has a row: with the fewest words that it takes, and so without options, none is a syntax error. QUIT
-/// alone has none: it is the server's own, which shuts the client.
+/// Each command of the table has a row: with the fewest words that it takes, and so without options, none is a syntax
+/// error. QUIT alone has none: it is the server's own, which shuts the client.
 pub fn each_command_has_a_row()
-    ensures { (world : World) (mode : Mode) (name : List ℕ) (words : List (List ℕ)) (row : Row) → row_named name ≡ Some row → row.id ≢ CmdId.Quit
-        → length (name ∷ words) ≡ row.least → (exec world mode (name ∷ words)).reply ≢ Reply.Fault (refusal_text Refusal.Syntax) }
+    ensures { (world : World) (mode : Mode) (name : List ℕ) (words : List (List ℕ)) (row : Row)
+        → row_named name ≡ Some row → row.id ≢ CmdId.Quit
+        → length (name ∷ words) ≡ row.least
+        → (exec world mode (name ∷ words)).reply ≢ Reply.Fault (refusal_text Refusal.Syntax) }
 {
     each_command_on_strings_has_a_row();
     each_command_on_keys_has_a_row();
 }
 
-/// A command leaves every key that it does not name as it was, with its value and its deadline; only FLUSHALL and FLUSHDB name
-/// none and take all. What a command names goes by the places of its words.
+/// A command leaves every key that it does not name as it was, with its value and its deadline; only FLUSHALL and
+/// FLUSHDB name none and take all. What a command names goes by the places of its words.
 pub fn commands_leave_other_keys()
-    ensures { (world : World) (mode : Mode) (name : List ℕ) (words : List (List ℕ)) (row : Row) (key : List ℕ) → row_named name ≡ Some row → KeepsKeys row.id
+    ensures { (world : World) (mode : Mode) (name : List ℕ) (words : List (List ℕ)) (row : Row) (key : List ℕ)
+        → row_named name ≡ Some row → KeepsKeys row.id
         → ¬ (Contains (keys_named row.id (name ∷ words)) key)
         → finite.get (moved_by world (exec world mode (name ∷ words))).store key ≡ finite.get world.store key }
 {

@@ -22,13 +22,17 @@ StandsFor-fits Stars b h = tt
 StandsFor-fits (Byte c) b h = ap (λ x. x ∷ []) (eqb-true b c h)
 StandsFor-fits (OneOf set) b h = (b, refl, h)
 
-pub Matches-byte : (part : Part) (parts : List Part) (b : ℕ) (text : List ℕ) → fits part b ≡ true → Matches parts text → Matches (part ∷ parts) (b ∷ text)
+pub Matches-byte : (part : Part) (parts : List Part) (b : ℕ) (text : List ℕ) → fits part b ≡ true → Matches parts text
+    → Matches (part ∷ parts) (b ∷ text)
 Matches-byte part parts b text h m = (b ∷ [], text, refl, StandsFor-fits part b h, m)
 
-one_byte : (part : Part) (parts : List Part) (text piece rest : List ℕ) (b : ℕ) → text ≡ piece ++ rest → piece ≡ b ∷ [] → fits part b ≡ true → Matches parts rest → OneByte part parts text
-one_byte part parts text piece rest b e one f m = record { byte = b; rest = rest; text_is = e ∙ ap (λ p. p ++ rest) one; fits_byte = f; behind = m }
+one_byte : (part : Part) (parts : List Part) (text piece rest : List ℕ) (b : ℕ) → text ≡ piece ++ rest
+    → piece ≡ b ∷ [] → fits part b ≡ true → Matches parts rest → OneByte part parts text
+one_byte part parts text piece rest b e one f m =
+    record { byte = b; rest = rest; text_is = e ∙ ap (λ p. p ++ rest) one; fits_byte = f; behind = m }
 
-pub Matches-one : (part : Part) (parts : List Part) (text : List ℕ) → is_stars part ≡ false → Matches (part ∷ parts) text → OneByte part parts text
+pub Matches-one : (part : Part) (parts : List Part) (text : List ℕ) → is_stars part ≡ false
+    → Matches (part ∷ parts) text → OneByte part parts text
 Matches-one Any parts text h m = one_byte Any parts text m.0 m.1 m.3.0 m.2 m.3.1 refl m.4
 Matches-one Stars parts text h m = absurd (cc)
 Matches-one (Byte c) parts text h m = one_byte (Byte c) parts text m.0 m.1 c m.2 m.3 (eq-eqb c c refl) m.4
@@ -48,10 +52,12 @@ is_stars-is (Byte c) h = absurd (cc)
 is_stars-is (OneOf set) h = absurd (cc)
 
 -- a row of any length, and then the other parts
-pub Matches-stars : (parts : List Part) (text : List ℕ) (k : ℕ) → Matches parts (drop k text) → Matches (Stars ∷ parts) text
+pub Matches-stars : (parts : List Part) (text : List ℕ) (k : ℕ) → Matches parts (drop k text)
+    → Matches (Stars ∷ parts) text
 Matches-stars parts text k m = (take k text, drop k text, sym (take-append-drop k text), tt, m)
 
-pub Matches-drop : (parts : List Part) (text : List ℕ) → Matches (Stars ∷ parts) text → (k : ℕ) × Matches parts (drop k text)
+pub Matches-drop : (parts : List Part) (text : List ℕ) → Matches (Stars ∷ parts) text → (k : ℕ)
+    × Matches parts (drop k text)
 Matches-drop parts text m =
     let behind : drop (length m.0) text ≡ m.1 = ap (drop (length m.0)) m.2 ∙ drop_at m.0 m.1 (length m.0) refl in
     (length m.0, subst (λ (t : List ℕ). Matches parts t) (sym behind) m.4)
@@ -74,6 +80,8 @@ not_nothing part parts one = let e : [] ≡ one.byte ∷ one.rest = one.text_is 
 pub are_stars-Matches : (parts : List Part) → Matches parts [] → list_all (λ part. is_stars part) parts ≡ true
 are_stars-Matches [] m = refl
 are_stars-Matches (Any ∷ parts) m = absurd (not_nothing Any parts (Matches-one Any parts [] refl m))
-are_stars-Matches (Stars ∷ parts) m = are_stars-Matches parts (subst (λ (t : List ℕ). Matches parts t) (empty_behind m.0 m.1 m.2) m.4)
+are_stars-Matches (Stars ∷ parts) m =
+    are_stars-Matches parts (subst (λ (t : List ℕ). Matches parts t) (empty_behind m.0 m.1 m.2) m.4)
 are_stars-Matches (Byte c ∷ parts) m = absurd (not_nothing (Byte c) parts (Matches-one (Byte c) parts [] refl m))
-are_stars-Matches (OneOf set ∷ parts) m = absurd (not_nothing (OneOf set) parts (Matches-one (OneOf set) parts [] refl m))
+are_stars-Matches (OneOf set ∷ parts) m =
+    absurd (not_nothing (OneOf set) parts (Matches-one (OneOf set) parts [] refl m))

@@ -4,7 +4,8 @@ use Rattle.cmd_glob.specs.declared.part.Part.{Part}
 use Rattle.cmd_glob.specs.declared.part.Part.TheVariants.{Any, Stars, Byte, OneOf}
 use Rattle.cmd_glob.specs.Sets.{is_in}
 
--- the piece of a text that a part can stand for: `?` for any one byte, `*` for any row of bytes, a byte for itself, and a
+-- the piece of a text that a part can stand for: `?` for any one byte, `*` for any row of bytes, a byte for itself,
+-- and a
 -- set for one of its bytes
 abbrev pub StandsFor : Part → List ℕ → Type 0
 StandsFor Any piece = (b : ℕ) × (piece ≡ b ∷ [])

@@ -11,12 +11,14 @@ use Rattle.cmd_glob.specs.Sets.{set_of}
 abbrev pub part_of : Symbol → Part
 part_of symbol = if is_mark 42 symbol then Stars else (if is_mark 63 symbol then Any else Byte symbol.byte)
 
--- a `[` begins a set, which has what stands before the next `]`, or all the rest where there is none. `true` is within a
+-- a `[` begins a set, which has what stands before the next `]`, or all the rest where there is none. `true` is
+-- within a
 -- set: up to its `]` there is no part of its own
 abbrev pub parts_from : Bool → List Symbol → List Part
 parts_from within [] = []
 parts_from true (s ∷ rest) = parts_from (not (is_mark 93 s)) rest
-parts_from false (s ∷ rest) = if is_mark 91 s then OneOf (set_of (before_first (is_mark 93) rest)) ∷ parts_from true rest else part_of s ∷ parts_from false rest
+parts_from false (s ∷ rest) = if is_mark 91 s then OneOf
+    (set_of (before_first (is_mark 93) rest)) ∷ parts_from true rest else part_of s ∷ parts_from false rest
 
 abbrev pub parts_of : List ℕ → List Part
 parts_of pattern = parts_from false (symbols_of pattern)

@@ -1,5 +1,6 @@
 -- The sets `[..]` of a pattern.
-use Rattle.std.specs.Prelude.{ℕ, Bool, true, false, nat_le, not, ◌&&◌, if◌then◌else◌, List, [], ◌∷◌, min, max, Option, Some, None}
+use Rattle.std.specs.Prelude.{ℕ, Bool, true, false, nat_le, not, ◌&&◌, if◌then◌else◌, List, [], ◌∷◌, min, max, Option}
+use Rattle.std.specs.Prelude.{Some, None}
 use Rattle.std.specs.List.{list_any}
 use Rattle.cmd_glob.specs.declared.symbol.Symbol.{Symbol}
 use Rattle.cmd_glob.specs.declared.byte_set.ByteRange.{ByteRange}
@@ -18,7 +19,8 @@ abbrev pub ranges_of : List Symbol → List ByteRange
 ranges_of [] = []
 ranges_of (a ∷ []) = single a.byte ∷ []
 ranges_of (a ∷ b ∷ []) = single a.byte ∷ single b.byte ∷ []
-ranges_of (a ∷ b ∷ c ∷ rest) = if is_mark 45 b then range a.byte c.byte ∷ ranges_of rest else single a.byte ∷ ranges_of (b ∷ c ∷ rest)
+ranges_of (a ∷ b ∷ c ∷ rest) = if is_mark 45 b then range a.byte c.byte ∷ ranges_of rest else single a.byte ∷
+    ranges_of (b ∷ c ∷ rest)
 
 -- behind a byte: the other end of a range, where a `-` and a byte follow, and what stands behind it
 abbrev pub range_end : List Symbol → Option (ℕ × List Symbol)
@@ -29,10 +31,14 @@ range_end (b ∷ c ∷ rest) = if is_mark 45 b then Some (c.byte, rest) else Non
 -- what stands between the brackets: a `^` first makes it the set of all other bytes
 abbrev pub set_of : List Symbol → ByteSet
 set_of [] = record { negated = false; ranges = [] }
-set_of (s ∷ rest) = if is_mark 94 s then record { negated = true; ranges = ranges_of rest } else record { negated = false; ranges = ranges_of (s ∷ rest) }
+set_of (s ∷ rest) = if is_mark 94 s then record { negated = true; ranges = ranges_of rest } else record {
+  negated = false;
+  ranges = ranges_of (s ∷ rest);
+}
 
 abbrev pub is_within : ByteRange → ℕ → Bool
 is_within r b = nat_le r.low b && nat_le b r.high
 
 abbrev pub is_in : ByteSet → ℕ → Bool
-is_in set b = if set.negated then not (list_any (λ r. is_within r b) set.ranges) else list_any (λ r. is_within r b) set.ranges
+is_in set b = if set.negated then not (list_any (λ r. is_within r b) set.ranges) else list_any
+    (λ r. is_within r b) set.ranges

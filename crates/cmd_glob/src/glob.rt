@@ -26,9 +26,10 @@ impl Model for Glob {
 }
 
 impl Glob {
-    /// The pattern that this text writes. `?` matches any one byte, `*` any row of bytes, `[..]` one of the bytes that it
-    /// lists, ranges as `a-z` among them, or with a `^` first any byte that it does not list, and a byte behind a
-    /// backslash itself. Each text is a pattern: a `[` without a `]` lists all that follows, and a last backslash is itself.
+    /// The pattern that this text writes. `?` matches any one byte, `*` any row of bytes, `[..]` one of the bytes
+    /// that it lists, ranges as `a-z` among them, or with a `^` first any byte that it does not list, and a byte
+    /// behind a backslash itself. Each text is a pattern: a `[` without a `]` lists all that follows, and a last
+    /// backslash is itself.
     pub fn new(alloc: Global, pattern: &[u8]) -> Result<Glob, NoMemory>
         ensures { IfOk result (λ glob. glob ≡ parts_of pattern.now) }
     {

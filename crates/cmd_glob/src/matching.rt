@@ -49,8 +49,8 @@ fn behind_byte(byte: u8, parts: &[Part]) -> Option<&[Part]>
     if first.fits(byte) { Some(more) } else { None }
 }
 
-// Whether a `*` and these parts match the whole text. Only the last `*` that was met is ever given more bytes: where the
-// parts before it match at one place, they need not be tried at a later one.
+// Whether a `*` and these parts match the whole text. Only the last `*` that was met is ever given more bytes: where
+// the parts before it match at one place, they need not be tried at a later one.
 fn matches_behind_stars(parts: &[Part], text: &[u8]) -> bool
     ensures { IsTrue result ↔ Matches (Stars ∷ parts.now) text.now }
 {

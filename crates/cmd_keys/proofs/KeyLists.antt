@@ -1,5 +1,6 @@
 -- The keys of a store, by their places and by a pattern.
-use Rattle.std.proofs.Common.{◌≡◌, ◌↔◌, ℕ, T, ◌&&◌, ◌||◌, ◌⊎◌, inl, inr, IsSome, ◌<◌, ◌≤◌, Bool, true, false, cond, List, [], ◌∷◌, length, map, filter, slice_get, get_or, None, refl, sym, ap, ◌∙◌, arith}
+use Rattle.std.proofs.Common.{◌≡◌, ◌↔◌, ℕ, T, ◌&&◌, ◌||◌, ◌⊎◌, inl, inr, IsSome, ◌<◌, ◌≤◌, Bool, true, false, cond}
+use Rattle.std.proofs.Common.{List, [], ◌∷◌, length, map, filter, slice_get, get_or, None, refl, sym, ap, ◌∙◌, arith}
 use Rattle.std.proofs.lemmas.List.{length-map}
 use Rattle.std.proofs.lemmas.Option.{slice_get-get_or, slice_get_past}
 use Rattle.std.proofs.lemmas.List.Kept.{IsStrictlySortedBy-filter}
@@ -37,7 +38,8 @@ randomkey-none store draws none =
 
 -- the keys ascend
 pub keys_ordered : (store : Store) (pattern : List ℕ) → IsStrictlySortedBy bytes_cmp (keys_matching store pattern)
-keys_ordered store pattern = IsStrictlySortedBy-filter bytes_cmp (is_match (parts_of pattern)) (finite.keys store) (keys_sorted (finite.entries store) (finite.entries_sorted store))
+keys_ordered store pattern = IsStrictlySortedBy-filter bytes_cmp (is_match (parts_of pattern)) (finite.keys store)
+    (keys_sorted (finite.entries store) (finite.entries_sorted store))
 
 -- the keys that pass a test
 is_same : (q k : List ℕ) → eq_by_cmp bytes_cmp q k ≡ true → q ≡ k
@@ -58,32 +60,49 @@ passes : (p : List ℕ → Bool) (keys : List (List ℕ)) (q : List ℕ) → Has
 passes p [] q h = absurd (false≢true h)
 passes p (k ∷ keys) q h = by_test (p k) refl h (passes p keys q)
   where
-    by_test : (b : Bool) → p k ≡ b → Has (cond b (k ∷ filter p keys) (filter p keys)) q → (Has (filter p keys) q → Has keys q × (p q ≡ true)) → Has (k ∷ keys) q × (p q ≡ true)
-    by_test true is h later = elim (or_cases (eq_by_cmp bytes_cmp q k) (list_any (eq_by_cmp bytes_cmp q) (filter p keys)) h) [
-      | inl same ↦ (or_first (eq_by_cmp bytes_cmp q k) (list_any (eq_by_cmp bytes_cmp q) keys) same, ap p (is_same q k same) ∙ is)
-      | inr rest ↦ let found = later rest in (or_second (eq_by_cmp bytes_cmp q k) (list_any (eq_by_cmp bytes_cmp q) keys) found.0, found.1)
-    ]
-    by_test false is h later = let found = later h in (or_second (eq_by_cmp bytes_cmp q k) (list_any (eq_by_cmp bytes_cmp q) keys) found.0, found.1)
+    by_test : (b : Bool) → p k ≡ b → Has (cond b (k ∷ filter p keys) (filter p keys)) q
+        → (Has (filter p keys) q → Has keys q × (p q ≡ true)) → Has (k ∷ keys) q × (p q ≡ true)
+    by_test true is h later = elim (or_cases (eq_by_cmp bytes_cmp q k)
+        (list_any (eq_by_cmp bytes_cmp q) (filter p keys)) h) [
+          | inl same ↦ (
+            or_first (eq_by_cmp bytes_cmp q k) (list_any (eq_by_cmp bytes_cmp q) keys) same,
+            ap p (is_same q k same) ∙ is,
+          )
+          | inr rest ↦ let found = later rest in
+              (or_second (eq_by_cmp bytes_cmp q k) (list_any (eq_by_cmp bytes_cmp q) keys) found.0, found.1)
+        ]
+    by_test false is h later = let found = later h in
+        (or_second (eq_by_cmp bytes_cmp q k) (list_any (eq_by_cmp bytes_cmp q) keys) found.0, found.1)
 
 passed : (p : List ℕ → Bool) (keys : List (List ℕ)) (q : List ℕ) → p q ≡ true → Has keys q → Has (filter p keys) q
 passed p [] q pass h = h
-passed p (k ∷ keys) q pass h = by_test (p k) refl (or_cases (eq_by_cmp bytes_cmp q k) (list_any (eq_by_cmp bytes_cmp q) keys) h) (passed p keys q pass)
+passed p (k ∷ keys) q pass h = by_test (p k) refl
+    (or_cases (eq_by_cmp bytes_cmp q k) (list_any (eq_by_cmp bytes_cmp q) keys) h) (passed p keys q pass)
   where
-    by_test : (b : Bool) → p k ≡ b → ((eq_by_cmp bytes_cmp q k ≡ true) ⊎ Has keys q) → (Has keys q → Has (filter p keys) q) → Has (cond b (k ∷ filter p keys) (filter p keys)) q
-    by_test true is (inl same) later = or_first (eq_by_cmp bytes_cmp q k) (list_any (eq_by_cmp bytes_cmp q) (filter p keys)) same
-    by_test true is (inr rest) later = or_second (eq_by_cmp bytes_cmp q k) (list_any (eq_by_cmp bytes_cmp q) (filter p keys)) (later rest)
+    by_test : (b : Bool) → p k ≡ b → ((eq_by_cmp bytes_cmp q k ≡ true) ⊎ Has keys q)
+        → (Has keys q → Has (filter p keys) q) → Has (cond b (k ∷ filter p keys) (filter p keys)) q
+    by_test true is (inl same) later =
+        or_first (eq_by_cmp bytes_cmp q k) (list_any (eq_by_cmp bytes_cmp q) (filter p keys)) same
+    by_test true is (inr rest) later =
+        or_second (eq_by_cmp bytes_cmp q k) (list_any (eq_by_cmp bytes_cmp q) (filter p keys)) (later rest)
     by_test false is (inl same) later = absurd (false≢true (sym is ∙ ap p (sym (is_same q k same)) ∙ pass))
     by_test false is (inr rest) later = later rest
 
-pub keys_listed : (store : Store) (pattern key : List ℕ) → Contains (keys_matching store pattern) key ↔ (IsSome (finite.get store key) × Matches (parts_of pattern) key)
+pub keys_listed : (store : Store) (pattern key : List ℕ)
+    → Contains (keys_matching store pattern) key ↔ (IsSome (finite.get store key) × Matches (parts_of pattern) key)
 keys_listed store pattern key = (
-  λ h. (let found = passes (is_match (parts_of pattern)) (finite.keys store) key (list_any-from_Contains (eq_by_cmp_equiv bytes_total) key (filter (is_match (parts_of pattern)) (finite.keys store)) h) in
+  λ h. (let found = passes (is_match (parts_of pattern)) (finite.keys store) key
+      (list_any-from_Contains (eq_by_cmp_equiv bytes_total) key
+      (filter (is_match (parts_of pattern)) (finite.keys store)) h) in
       (finite.contains_key-keys store key ∙ found.0, match-sound (parts_of pattern) key found.1)),
-  λ h. Contains-from_any is_same key (filter (is_match (parts_of pattern)) (finite.keys store)) (passed (is_match (parts_of pattern)) (finite.keys store) key (match-complete (parts_of pattern) key h.1) (sym (finite.contains_key-keys store key) ∙ h.0)),
+  λ h. Contains-from_any is_same key (filter (is_match (parts_of pattern)) (finite.keys store))
+      (passed (is_match (parts_of pattern)) (finite.keys store) key (match-complete (parts_of pattern) key h.1)
+      (sym (finite.contains_key-keys store key) ∙ h.0)),
 )
 
 pub randomkey_some : (store : Store) (draws : ℕ) → 1 ≤ finite.len store
-    → (key : List ℕ) × ((randomkey_row store draws).reply ≡ Bulk key) × IsSome (finite.get store key) × ((randomkey_row store draws).draws ≡ 1)
+    → (key : List ℕ) × ((randomkey_row store draws).reply ≡ Bulk key) × IsSome (finite.get store key)
+    × ((randomkey_row store draws).draws ≡ 1)
 randomkey_some store draws some =
     let place = drawn_place (finite.len store) draws in
     let keys = length-keys store in
@@ -92,7 +111,9 @@ randomkey_some store draws some =
     let there = slice_get-get_or (finite.keys store) place [] within in (
       key,
       ap (λ o. (drawn_key o).reply) there,
-      finite.contains_key-keys store key ∙ list_any-from_Contains (eq_by_cmp_equiv bytes_total) key (finite.keys store) (Contains-get_or (finite.keys store) place [] within),
+      finite.contains_key-keys store key
+          ∙ list_any-from_Contains (eq_by_cmp_equiv bytes_total) key (finite.keys store)
+          (Contains-get_or (finite.keys store) place [] within),
       ap (λ o. (drawn_key o).draws) there,
     )
 
@@ -100,5 +121,7 @@ pub randomkey_empty : (draws : ℕ) → randomkey_row finite.empty draws ≡ ans
 randomkey_empty draws = randomkey-none finite.empty draws (finite.len-empty bytes_cmp Entry)
 
 -- where there is a key, one draw is taken
-pub drawn-one : (store : Store) (count draws : ℕ) → count ≡ finite.len store → (count ≡ 0 → ⊥) → (randomkey_row store draws).draws ≡ 1
-drawn-one store count draws counted some = let at_least : 1 ≤ finite.len store = omega arith in (randomkey_some store draws at_least).3
+pub drawn-one : (store : Store) (count draws : ℕ) → count ≡ finite.len store → (count ≡ 0 → ⊥)
+    → (randomkey_row store draws).draws ≡ 1
+drawn-one store count draws counted some = let at_least : 1 ≤ finite.len store = omega arith in
+    (randomkey_some store draws at_least).3

@@ -1,6 +1,8 @@
--- The rows of the commands on deadlines (Redis manual: EXPIRE, PEXPIRE, EXPIREAT, PEXPIREAT, PERSIST, TTL, PTTL, EXPIRETIME
+-- The rows of the commands on deadlines (Redis manual: EXPIRE, PEXPIRE, EXPIREAT, PEXPIREAT, PERSIST, TTL, PTTL,
+-- EXPIRETIME
 -- and PEXPIRETIME).
-use Rattle.std.specs.Prelude.{ℕ, ◌+◌, ◌-◌, ◌/◌, is_some, if◌then◌else◌, ℤ, pos, negsuc, List, [], ◌∷◌, Option, Some, None}
+use Rattle.std.specs.Prelude.{ℕ, ◌+◌, ◌-◌, ◌/◌, is_some, if◌then◌else◌, ℤ, pos, negsuc, List, [], ◌∷◌, Option, Some}
+use Rattle.std.specs.Prelude.{None}
 use Rattle.std.specs.FinMap as finite
 use Rattle.resp_reply.specs.declared.reply.Reply.TheVariants.{Int}
 use Rattle.ks_space.specs.declared.entry.Entry.{Entry}
@@ -18,7 +20,8 @@ use Rattle.cmd_keys.specs.KeyRows.{is_there}
 -- by the number; the time is refused for an absent key too
 abbrev pub expire_by : Store → CmdId → Expiry → ℕ → List ℕ → ℤ → Outcome
 expire_by store command kind now key n =
-    with_found (expire_time command kind now n) (λ at. if is_there store key then does (Int (pos 1)) (expire_at key now at ∷ []) else answers (Int (pos 0)))
+    with_found (expire_time command kind now n)
+    (λ at. if is_there store key then does (Int (pos 1)) (expire_at key now at ∷ []) else answers (Int (pos 0)))
 
 -- EXPIRE, PEXPIRE, EXPIREAT and PEXPIREAT
 abbrev pub expire_row : Store → CmdId → Expiry → ℕ → List ℕ → List ℕ → Outcome
@@ -26,7 +29,8 @@ expire_row store command kind now key word = with_found (number word) (expire_by
 
 -- 1 only where a deadline was there
 abbrev pub persist_row : Store → List ℕ → Outcome
-persist_row store key = if is_some (deadline_at store key) then does (Int (pos 1)) (Persist key ∷ []) else answers (Int (pos 0))
+persist_row store key = if is_some (deadline_at store key) then does (Int (pos 1)) (Persist key ∷ []) else answers
+    (Int (pos 0))
 
 -- milliseconds in seconds, to the nearest
 abbrev pub seconds : ℕ → ℕ

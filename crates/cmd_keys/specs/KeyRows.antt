@@ -1,5 +1,7 @@
--- The rows of the commands on keys of any kind (Redis manual: DEL, UNLINK, EXISTS, TYPE, KEYS, RANDOMKEY, RENAME, RENAMENX).
-use Rattle.std.specs.Prelude.{ℕ, Bool, is_some, if◌then◌else◌, pos, List, [], ◌∷◌, map, filter, length, count_by, slice_get, Option, Some, None, codes}
+-- The rows of the commands on keys of any kind (Redis manual: DEL, UNLINK, EXISTS, TYPE, KEYS, RANDOMKEY, RENAME,
+-- RENAMENX).
+use Rattle.std.specs.Prelude.{ℕ, Bool, is_some, if◌then◌else◌, pos, List, [], ◌∷◌, map, filter, length, count_by}
+use Rattle.std.specs.Prelude.{slice_get, Option, Some, None, codes}
 use Rattle.std.specs.FinMap as finite
 use Rattle.resp_reply.specs.declared.reply.Reply.TheVariants.{Status, Int, Bulk, NullBulk}
 use Rattle.ks_space.specs.declared.entry.Entry.{Entry}
@@ -20,7 +22,8 @@ is_there store key = is_some (finite.get store key)
 -- of these keys those that are there, each once
 abbrev pub leaving : Store → List (List ℕ) → List (List ℕ)
 leaving store [] = []
-leaving store (key ∷ keys) = if is_there store key then key ∷ leaving (finite.remove store key) keys else leaving store keys
+leaving store (key ∷ keys) = if is_there store key then key ∷ leaving
+    (finite.remove store key) keys else leaving store keys
 
 -- DEL and UNLINK: how many keys left
 abbrev pub del_row : Store → List (List ℕ) → Outcome
@@ -65,4 +68,5 @@ rename_row store from to = if is_there store from then does ok (Rename from to �
 -- a key that is there keeps what it holds
 abbrev pub renamenx_row : Store → List ℕ → List ℕ → Outcome
 renamenx_row store from to =
-    if is_there store from then (if is_there store to then answers (Int (pos 0)) else does (Int (pos 1)) (Rename from to ∷ [])) else refused NoSuchKey
+    if is_there store from then (if is_there store to then answers (Int (pos 0)) else does (Int (pos 1))
+    (Rename from to ∷ [])) else refused NoSuchKey

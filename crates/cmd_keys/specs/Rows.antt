@@ -3,7 +3,10 @@ use Rattle.std.specs.Prelude.{◌≡◌, ℕ, Bool, true, false, List, [], ◌�
 use Rattle.resp_reply.specs.declared.reply.Reply.{Reply}
 use Rattle.ks_space.specs.Store.{Store}
 use Rattle.cmd_args.specs.declared.commands.CmdId.{CmdId}
-use Rattle.cmd_args.specs.declared.commands.CmdId.TheVariants.{Ping, Echo, Select, Time, DbSize, FlushAll, FlushDb, Del, Unlink, Exists, TypeOf, Keys, RandomKey, Rename, RenameNx, Expire, PExpire, ExpireAt, PExpireAt, Persist, PTtl, Ttl, PExpireTime, ExpireTime}
+use Rattle.cmd_args.specs.declared.commands.CmdId.TheVariants.{Ping, Echo, Select, Time, DbSize, FlushAll, FlushDb}
+use Rattle.cmd_args.specs.declared.commands.CmdId.TheVariants.{Del, Unlink, Exists, TypeOf, Keys, RandomKey, Rename}
+use Rattle.cmd_args.specs.declared.commands.CmdId.TheVariants.{RenameNx, Expire, PExpire, ExpireAt, PExpireAt}
+use Rattle.cmd_args.specs.declared.commands.CmdId.TheVariants.{Persist, PTtl, Ttl, PExpireTime, ExpireTime}
 use Rattle.cmd_args.specs.declared.refusal.Refusal.TheVariants.{Syntax}
 use Rattle.cmd_rows.specs.declared.times.Expiry.{Expiry}
 use Rattle.cmd_rows.specs.declared.times.Expiry.TheVariants.{InSeconds, InMillis, AtSecond, AtMillis}

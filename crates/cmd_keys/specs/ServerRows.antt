@@ -1,6 +1,7 @@
 -- The rows of the commands on the server and on the store as a whole (Redis manual: PING, ECHO, SELECT, TIME, DBSIZE,
 -- FLUSHALL and FLUSHDB).
-use Rattle.std.specs.Prelude.{ℕ, zero, ◌*◌, ◌/◌, ◌%◌, Bool, ◌||◌, if◌then◌else◌, ℤ, pos, List, [], ◌∷◌, Option, Some, None, codes, decimal}
+use Rattle.std.specs.Prelude.{ℕ, zero, ◌*◌, ◌/◌, ◌%◌, Bool, ◌||◌, if◌then◌else◌, ℤ, pos, List, [], ◌∷◌, Option, Some}
+use Rattle.std.specs.Prelude.{None, codes, decimal}
 use Rattle.std.specs.Str.{str_eq_ignore_ascii_case}
 use Rattle.std.specs.FinMap as finite
 use Rattle.resp_reply.specs.declared.reply.Reply.{Reply, roll-Reply}

@@ -18,9 +18,9 @@ use resp_reply::Reply;
 use rs_base::{NoMemory, Words};
 use std::alloc::Global;
 
-/// Carries out a command on keys or on the server, as its row says: it answers the reply, changes the store, adds what was
-/// done to it to the effects, unless the store is as before, and takes the draws. `words` fit the command and are at most
-/// 16,777,216 bytes each. After `NoMemory` the store and the effects are only good for dropping.
+/// Carries out a command on keys or on the server, as its row says: it answers the reply, changes the store, adds
+/// what was done to it to the effects, unless the store is as before, and takes the draws. `words` fit the command
+/// and are at most 16,777,216 bytes each. After `NoMemory` the store and the effects are only good for dropping.
 pub fn run_keys(
     alloc: Global,
     space: &mut Space,
@@ -33,7 +33,8 @@ pub fn run_keys(
     requires { AllByRecursion IsShort words.now }
     ensures did { IfOk result (λ reply. let row = key_row space.old ctx.now.time draws.old row.now.id words.now in
         Did space.old row reply space.new effects.old effects.new row.draws) }
-    ensures draws { OnOk result (draws.new ≡ state_after draws.old (key_row space.old ctx.now.time draws.old row.now.id words.now).draws) }
+    ensures draws { OnOk result (draws.new
+        ≡ state_after draws.old (key_row space.old ctx.now.time draws.old row.now.id words.now).draws) }
 {
     let gave = run(alloc, space, ctx.time, row.id, words, draws, effects);
     answered(alloc, gave)
@@ -52,7 +53,8 @@ fn run(
     requires { AllByRecursion IsShort words.now }
     ensures did { IfAnswered result (λ reply. let row = key_row space.old now draws.old id words.now in
         Did space.old row reply space.new effects.old effects.new row.draws) }
-    ensures draws { IfAnswered result (λ _. draws.new ≡ state_after draws.old (key_row space.old now draws.old id words.now).draws) }
+    ensures draws { IfAnswered result
+        (λ _. draws.new ≡ state_after draws.old (key_row space.old now draws.old id words.now).draws) }
 {
     match id {
         CmdId::RandomKey => random_key(space, draws),
@@ -70,7 +72,8 @@ fn change(
     effects: &mut Effects,
 ) -> Result<Reply, Stop>
     requires { AllByRecursion IsShort words.now }
-    ensures { IfAnswered result (λ reply. Did space.old (changing_row space.old now id words.now) reply space.new effects.old effects.new 0) }
+    ensures { IfAnswered result (λ reply.
+        Did space.old (changing_row space.old now id words.now) reply space.new effects.old effects.new 0) }
 {
     match id {
         CmdId::FlushAll | CmdId::FlushDb => flush(alloc, space, words, effects),

@@ -13,8 +13,8 @@ use ks_space::{Entry, Space};
 use resp_reply::Reply;
 use rs_base::{Bytes, Words};
 
-/// EXPIRE, PEXPIRE, EXPIREAT and PEXPIREAT: the key, if it is there, expires at a time; where that is at or below `now`, it
-/// leaves at once. Answers 1, or 0 where the key is absent.
+/// EXPIRE, PEXPIRE, EXPIREAT and PEXPIREAT: the key, if it is there, expires at a time; where that is at or below
+/// `now`, it leaves at once. Answers 1, or 0 where the key is absent.
 pub fn expire(
     space: &mut Space,
     command: CmdId,
@@ -24,7 +24,8 @@ pub fn expire(
     effects: &mut Effects,
 ) -> Result<Reply, Stop>
     requires { AllByRecursion IsShort words.now }
-    ensures { IfAnswered result (λ reply. Did space.old (with_two_words words.now (expire_row space.old command kind now)) reply
+    ensures { IfAnswered result (λ reply.
+        Did space.old (with_two_words words.now (expire_row space.old command kind now)) reply
         space.new effects.old effects.new 0) }
 {
     let key = word(words, 1)?;
@@ -42,7 +43,8 @@ fn expire_key(
     effects: &mut Effects,
 ) -> Result<Reply, Stop>
     requires { IsShort key.now }
-    ensures { IfAnswered result (λ reply. Did space.old (expire_by space.old command kind now key.now n) reply space.new effects.old effects.new 0) }
+    ensures { IfAnswered result (λ reply.
+        Did space.old (expire_by space.old command kind now key.now n) reply space.new effects.old effects.new 0) }
 {
     let at = expire_time(command, kind, now, n)?;
     if !is_there(space, key) {
@@ -55,7 +57,8 @@ fn expire_key(
 /// PERSIST: the key has no deadline any longer. Answers 1 where it had one, else 0.
 pub fn persist(space: &mut Space, words: &Words, effects: &mut Effects) -> Result<Reply, Stop>
     requires { AllByRecursion IsShort words.now }
-    ensures { IfAnswered result (λ reply. Did space.old (with_word words.now (persist_row space.old)) reply space.new effects.old effects.new 0) }
+    ensures { IfAnswered result (λ reply.
+        Did space.old (with_word words.now (persist_row space.old)) reply space.new effects.old effects.new 0) }
 {
     let key = word(words, 1)?;
     if !has_deadline(space, key) {
@@ -87,8 +90,8 @@ pub enum Asked {
     Second,
 }
 
-/// PTTL, TTL, PEXPIRETIME and EXPIRETIME: what is asked of the deadline of a key. -2 where the key is absent, and -1 where it
-/// has no deadline.
+/// PTTL, TTL, PEXPIRETIME and EXPIRETIME: what is asked of the deadline of a key. -2 where the key is absent, and -1
+/// where it has no deadline.
 pub fn deadline(space: &Space, asked: Asked, now: u64, words: &Words) -> Result<Reply, Stop>
     ensures { IfAnswered result (λ reply. Tells (with_word words.now (deadline_row space.now asked now)) reply) }
 {

@@ -17,7 +17,8 @@ use rs_base::{Bytes, NoMemory, Words};
 /// DEL and UNLINK: the keys leave. Answers how many were there.
 pub fn del(space: &mut Space, words: &Words, effects: &mut Effects) -> Result<Reply, Stop>
     requires { AllByRecursion IsShort words.now }
-    ensures { IfAnswered result (λ reply. Did space.old (del_row space.old (behind_name words.now)) reply space.new effects.old effects.new 0) }
+    ensures { IfAnswered result (λ reply.
+        Did space.old (del_row space.old (behind_name words.now)) reply space.new effects.old effects.new 0) }
 {
     let mut gone = 0;
     for key in behind_name(words) {

@@ -21,7 +21,8 @@ pub fn rename(
     effects: &mut Effects,
 ) -> Result<Reply, Stop>
     requires { AllByRecursion IsShort words.now }
-    ensures { IfAnswered result (λ reply. Did space.old (with_two_words words.now (rename_row space.old)) reply space.new effects.old effects.new 0) }
+    ensures { IfAnswered result (λ reply.
+        Did space.old (with_two_words words.now (rename_row space.old)) reply space.new effects.old effects.new 0) }
 {
     let from = word(words, 1)?;
     let to = word(words, 2)?;
@@ -39,7 +40,8 @@ pub fn rename(
 /// RENAMENX: as RENAME where the other key is not there; else nothing is done. Answers 1 or 0.
 pub fn rename_nx(space: &mut Space, words: &Words, effects: &mut Effects) -> Result<Reply, Stop>
     requires { AllByRecursion IsShort words.now }
-    ensures { IfAnswered result (λ reply. Did space.old (with_two_words words.now (renamenx_row space.old)) reply space.new effects.old effects.new 0) }
+    ensures { IfAnswered result (λ reply.
+        Did space.old (with_two_words words.now (renamenx_row space.old)) reply space.new effects.old effects.new 0) }
 {
     let from = word(words, 1)?;
     let to = word(words, 2)?;

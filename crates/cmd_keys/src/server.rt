@@ -4,7 +4,8 @@ ghost use Rattle.resp_reply.specs.declared.reply.Reply.{Reply};
 ghost use Rattle.fx_record.specs.declared.record.Record.TheVariants.{FlushAll};
 ghost use Rattle.cmd_rows.specs.Deeds.{Did, IfAnswered};
 ghost use Rattle.cmd_rows.specs.Outcomes.{ok, does, refused};
-ghost use Rattle.cmd_keys.specs.ServerRows.{ping_row, echo_row, select_row, time_row, dbsize_row, is_flush_mode, flush_row};
+ghost use Rattle.cmd_keys.specs.ServerRows.{ping_row, echo_row, select_row, time_row, dbsize_row, is_flush_mode};
+ghost use Rattle.cmd_keys.specs.ServerRows.{flush_row};
 ghost use Rattle.cmd_keys.specs.Rows.{with_word, Tells};
 
 use crate::words::count;
@@ -77,7 +78,8 @@ pub fn flush(
     words: &Words,
     effects: &mut Effects,
 ) -> Result<Reply, Stop>
-    ensures { IfAnswered result (λ reply. Did space.old (flush_row (slice_get words.now 1)) reply space.new effects.old effects.new 0) }
+    ensures { IfAnswered result (λ reply.
+        Did space.old (flush_row (slice_get words.now 1)) reply space.new effects.old effects.new 0) }
 {
     flush_mode(words.get(1))?;
     carry_out(space, effects, Record::FlushAll)?;
@@ -86,7 +88,8 @@ pub fn flush(
 
 // No word, ASYNC or SYNC. Both mean the same here.
 fn flush_mode(mode: Option<&Bytes>) -> Result<(), Refusal>
-    ensures { MatchResult result (λ _. flush_row (option_copied mode.entry) ≡ does ok (FlushAll ∷ [])) (λ why. flush_row (option_copied mode.entry) ≡ refused why) }
+    ensures { MatchResult result (λ _. flush_row (option_copied mode.entry) ≡ does ok (FlushAll ∷ []))
+        (λ why. flush_row (option_copied mode.entry) ≡ refused why) }
 {
     match mode {
         Some(word) if !is_flush_mode(word) => Err(Refusal::Syntax),

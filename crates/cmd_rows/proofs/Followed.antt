@@ -20,7 +20,8 @@ use Rattle.cmd_rows.specs.Deeds.{IfAnswered, Answers}
 pub settled-nothing : (store : Store) → settled store [] ≡ []
 settled-nothing store = settled-back store [] refl
 
-pub applied-append : (store : Store) (first then : List Record) → applied store (first ++ then) ≡ applied (applied store first) then
+pub applied-append : (store : Store) (first then : List Record)
+    → applied store (first ++ then) ≡ applied (applied store first) then
 applied-append store [] then = refl
 applied-append store (r ∷ first) then = applied-append (apply store r) first then
 
@@ -32,18 +33,22 @@ are_timely : (time : ℕ) (rs : List Record) → AreTimelyWithin time rs → All
 are_timely time [] all = tt
 are_timely time (r ∷ rs) all = (all.0.1, are_timely time rs all.1)
 
-pub within-limits : (time : ℕ) (store : Store) (rs : List Record) → IsStore store → AreTimelyWithin time rs → IsStore (applied store rs)
+pub within-limits : (time : ℕ) (store : Store) (rs : List Record) → IsStore store → AreTimelyWithin time rs
+    → IsStore (applied store rs)
 within-limits time store rs within all = applied-within store rs within (are_records time rs all)
 
-pub within-time : (time : ℕ) (store : Store) (rs : List Record) → IsTimely store time → AreTimelyWithin time rs → IsTimely (applied store rs) time
+pub within-time : (time : ℕ) (store : Store) (rs : List Record) → IsTimely store time → AreTimelyWithin time rs
+    → IsTimely (applied store rs) time
 within-time time store rs timely all = applied-timely time store rs timely (are_timely time rs all)
 
-pub timely-append : (time : ℕ) (first then : List Record) → AreTimelyWithin time first → AreTimelyWithin time then → AreTimelyWithin time (first ++ then)
+pub timely-append : (time : ℕ) (first then : List Record) → AreTimelyWithin time first → AreTimelyWithin time then
+    → AreTimelyWithin time (first ++ then)
 timely-append time [] then one two = two
 timely-append time (r ∷ first) then one two = (one.0, timely-append time first then one.1 two)
 
 -- what is so of a command's reply is so of the reply in which it ends
-pub answers-says : (Says : Reply → Type 0) (gave : Result Reply Stop) (reply : Reply) → Answers gave reply → IfAnswered gave Says → Says reply
+pub answers-says : (Says : Reply → Type 0) (gave : Result Reply Stop) (reply : Reply) → Answers gave reply
+    → IfAnswered gave Says → Says reply
 answers-says Says (Ok given) reply is says = subst Says (sym is) says
 answers-says Says (Err (Refused why)) reply is says = subst Says (sym is) says
 answers-says Says (Err NoMemory) reply is says = absurd is

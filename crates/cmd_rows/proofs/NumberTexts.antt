@@ -1,5 +1,7 @@
 -- Words as integers.
-use Rattle.std.proofs.Common.{◌≡◌, ◌↔◌, ℕ, suc, ◌^◌, ◌<◌, Bool, true, false, cond, ◌&&◌, eqb, ℤ, pos, negsuc, neg_ℤ, List, [], ◌∷◌, Result, Ok, Err, FitsSigned, w64, refl, ap, sym, subst, ◌∙◌, arith, decimal}
+use Rattle.std.proofs.Common.{◌≡◌, ◌↔◌, ℕ, suc, ◌^◌, ◌<◌, Bool, true, false, cond, ◌&&◌, eqb, ℤ, pos, negsuc, neg_ℤ}
+use Rattle.std.proofs.Common.{List, [], ◌∷◌, Result, Ok, Err, FitsSigned, w64, refl, ap, sym, subst, ◌∙◌, arith}
+use Rattle.std.proofs.Common.{decimal}
 use Rattle.std.specs.Char.{digit_value}
 use Rattle.std.specs.Str.{bytes_eq}
 use Rattle.std.specs.Str.Parse.{AllDigits, digits_value}
@@ -37,7 +39,8 @@ no_minus c digit =
 
 digits_read : (digits : List ℕ) → AllDigits 10 digits → read_digits digits ≡ pos (digits_value 10 digits)
 digits_read [] all = refl
-digits_read (c ∷ digits) all = ap (λ t. cond t (neg_ℤ (pos (digits_value 10 digits))) (pos (digits_value 10 (c ∷ digits)))) (no_minus c all.0)
+digits_read (c ∷ digits) all = ap
+    (λ t. cond t (neg_ℤ (pos (digits_value 10 digits))) (pos (digits_value 10 (c ∷ digits)))) (no_minus c all.0)
 
 -- the text of an integer spells it
 read-text : (z : ℤ) → FitsSigned w64 z → read_digits (integer_text z) ≡ z
@@ -61,19 +64,22 @@ pub number-is : (word : List ℕ) (z : ℤ) → word ≡ integer_text z → Fits
 number-is word z e fits =
     let read : read_digits word ≡ z = ap read_digits e ∙ read-text z fits in
     subst (λ (x : ℤ). told (bytes_eq word (integer_text x) && is_within_64 x) x ≡ Ok z) (sym read)
-    (ap (λ t. told (t && is_within_64 z) z) ((bytes_eq-Decides word (integer_text z)).1 e) ∙ ap (λ t. told t z) (within-true z fits))
+    (ap (λ t. told (t && is_within_64 z) z) ((bytes_eq-Decides word (integer_text z)).1 e)
+    ∙ ap (λ t. told t z) (within-true z fits))
 
 pub number-only : (word : List ℕ) (z : ℤ) → number word ≡ Ok z → (word ≡ integer_text z) × FitsSigned w64 z
 number-only word z e =
     let x = read_digits word in
     let out = held (bytes_eq word (integer_text x) && is_within_64 x) x z e in
     let tests = both (bytes_eq word (integer_text x)) (is_within_64 x) out.0 in
-    subst (λ (y : ℤ). (word ≡ integer_text y) × FitsSigned w64 y) out.1 ((bytes_eq-Decides word (integer_text x)).0 tests.0, within-is x tests.1)
+    subst (λ (y : ℤ). (word ≡ integer_text y) × FitsSigned w64 y) out.1
+    ((bytes_eq-Decides word (integer_text x)).0 tests.0, within-is x tests.1)
 
 pub number-exactly : (word : List ℕ) (z : ℤ) → (number word ≡ Ok z) ↔ ((word ≡ integer_text z) × FitsSigned w64 z)
 number-exactly word z = (number-only word z, λ h. number-is word z h.0 h.1)
 
-pub number-none : (word : List ℕ) → ((z : ℤ) → FitsSigned w64 z → word ≡ integer_text z → ⊥) → number word ≡ Err NotInteger
+pub number-none : (word : List ℕ) → ((z : ℤ) → FitsSigned w64 z → word ≡ integer_text z → ⊥)
+    → number word ≡ Err NotInteger
 number-none word none =
     let x = read_digits word in
     by_test (λ t. told t x ≡ Err NotInteger) (bytes_eq word (integer_text x) && is_within_64 x)

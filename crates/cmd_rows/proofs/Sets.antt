@@ -12,8 +12,10 @@ use Rattle.fx_record.proofs.Stores.{same_or_other, get-insert_same, get-insert_o
 use Rattle.cmd_rows.specs.Strings.{sets_of, sets_in}
 use Rattle.cmd_rows.specs.Sets.{IsSet, Agrees}
 
-at_same : (store : Store) (key : List ℕ) (entry : Entry) (q : List ℕ) → q ≡ key → finite.get (finite.insert store key entry) q ≡ Some entry
-at_same store key entry q same = subst (λ k. finite.get (finite.insert store key entry) k ≡ Some entry) (sym same) (get-insert_same store key entry)
+at_same : (store : Store) (key : List ℕ) (entry : Entry) (q : List ℕ) → q ≡ key
+    → finite.get (finite.insert store key entry) q ≡ Some entry
+at_same store key entry q same =
+    subst (λ k. finite.get (finite.insert store key entry) k ≡ Some entry) (sym same) (get-insert_same store key entry)
 
 -- a store has what the top has, and the rest from the base
 record Over (base top all : Store) : Type 0 where
@@ -26,32 +28,42 @@ over-start base = record {
   absent = λ q none. refl;
 }
 
-over-insert : (base top all : Store) (key : List ℕ) (entry : Entry) → Over base top all → Over base (finite.insert top key entry) (finite.insert all key entry)
+over-insert : (base top all : Store) (key : List ℕ) (entry : Entry) → Over base top all
+    → Over base (finite.insert top key entry) (finite.insert all key entry)
 over-insert base top all key entry over = record { there = there; absent = absent }
   where
-    there : (q : List ℕ) (e : Entry) → finite.get (finite.insert top key entry) q ≡ Some e → finite.get (finite.insert all key entry) q ≡ Some e
+    there : (q : List ℕ) (e : Entry) → finite.get (finite.insert top key entry) q ≡ Some e
+        → finite.get (finite.insert all key entry) q ≡ Some e
     there q e at = elim (same_or_other q key) [
       | inl same ↦ at_same all key entry q same ∙ sym (at_same top key entry q same) ∙ at
-      | inr apart ↦ get-insert_other all key entry q apart ∙ over.there q e (sym (get-insert_other top key entry q apart) ∙ at)
+      | inr apart ↦ get-insert_other all key entry q apart
+          ∙ over.there q e (sym (get-insert_other top key entry q apart) ∙ at)
     ]
 
-    absent : (q : List ℕ) → finite.get (finite.insert top key entry) q ≡ None → finite.get (finite.insert all key entry) q ≡ finite.get base q
+    absent : (q : List ℕ) → finite.get (finite.insert top key entry) q ≡ None
+        → finite.get (finite.insert all key entry) q ≡ finite.get base q
     absent q none = elim (same_or_other q key) [
       | inl same ↦ let some = at_same top key entry q same in absurd (cc)
-      | inr apart ↦ get-insert_other all key entry q apart ∙ over.absent q (sym (get-insert_other top key entry q apart) ∙ none)
+      | inr apart ↦ get-insert_other all key entry q apart
+          ∙ over.absent q (sym (get-insert_other top key entry q apart) ∙ none)
     ]
 
-over-applied : (base top all : Store) (rs : List Record) → AllByRecursion IsSet rs → Over base top all → Over base (applied top rs) (applied all rs)
+over-applied : (base top all : Store) (rs : List Record) → AllByRecursion IsSet rs → Over base top all
+    → Over base (applied top rs) (applied all rs)
 over-applied base top all [] sets over = over
 over-applied base top all (Set key value ∷ rs) sets over =
-    over-applied base (finite.insert top key (string_entry value None)) (finite.insert all key (string_entry value None)) rs sets.1 (over-insert base top all key (string_entry value None) over)
+    over-applied base (finite.insert top key (string_entry value None))
+    (finite.insert all key (string_entry value None)) rs sets.1
+    (over-insert base top all key (string_entry value None) over)
 over-applied base top all (_ ∷ rs) sets over = absurd sets.0
 
 -- what the top has, the store has too, where it is what the last has
 abbrev Told : Store → Store → Store → Type 0
-Told store last top = (q : List ℕ) (e : Entry) → finite.get top q ≡ Some e → finite.get last q ≡ Some e → finite.get store q ≡ Some e
+Told store last top = (q : List ℕ) (e : Entry) → finite.get top q ≡ Some e → finite.get last q ≡ Some e
+    → finite.get store q ≡ Some e
 
-told-insert : (store last top : Store) (key : List ℕ) (entry : Entry) → (finite.get last key ≡ Some entry → finite.get store key ≡ Some entry) → Told store last top
+told-insert : (store last top : Store) (key : List ℕ) (entry : Entry)
+    → (finite.get last key ≡ Some entry → finite.get store key ≡ Some entry) → Told store last top
     → Told store last (finite.insert top key entry)
 told-insert store last top key entry agrees told q e at in_last = elim (same_or_other q key) [
   | inl same ↦
@@ -60,15 +72,19 @@ told-insert store last top key entry agrees told q e at in_last = elim (same_or_
   | inr apart ↦ told q e (sym (get-insert_other top key entry q apart) ∙ at) in_last
 ]
 
-told-applied : (store last top : Store) (rs : List Record) → AllByRecursion IsSet rs → AllByRecursion (Agrees last store) rs → Told store last top → Told store last (applied top rs)
+told-applied : (store last top : Store) (rs : List Record) → AllByRecursion IsSet rs
+    → AllByRecursion (Agrees last store) rs → Told store last top → Told store last (applied top rs)
 told-applied store last top [] sets agree told = told
 told-applied store last top (Set key value ∷ rs) sets agree told =
-    told-applied store last (finite.insert top key (string_entry value None)) rs sets.1 agree.1 (told-insert store last top key (string_entry value None) agree.0 told)
+    told-applied store last (finite.insert top key (string_entry value None)) rs sets.1 agree.1
+    (told-insert store last top key (string_entry value None) agree.0 told)
 told-applied store last top (_ ∷ rs) sets agree told = absurd sets.0
 
-module _ (store last : Store) (rs : List Record) (sets : AllByRecursion IsSet rs) (is : last ≡ applied finite.empty rs) where
+module _ (store last : Store) (rs : List Record) (sets : AllByRecursion IsSet rs)
+    (is : last ≡ applied finite.empty rs) where
   over : Over store last (applied store rs)
-  over = subst (λ (top : Store). Over store top (applied store rs)) (sym is) (over-applied store finite.empty store rs sets (over-start store))
+  over = subst (λ (top : Store). Over store top (applied store rs)) (sym is)
+      (over-applied store finite.empty store rs sets (over-start store))
 
   back-agree : AllByRecursion (Agrees last store) rs → applied store rs ≡ store
   back-agree agree = same_by_keys (applied store rs) store (λ q. at q (finite.get last q) refl)
@@ -77,9 +93,11 @@ module _ (store last : Store) (rs : List Record) (sets : AllByRecursion IsSet rs
       start q e at in_last = let none = get-empty q in absurd (cc)
 
       told : Told store last last
-      told = subst (λ (top : Store). Told store last top) (sym is) (told-applied store last finite.empty rs sets agree start)
+      told = subst (λ (top : Store). Told store last top) (sym is)
+          (told-applied store last finite.empty rs sets agree start)
 
-      at : (q : List ℕ) (found : Option Entry) → finite.get last q ≡ found → finite.get (applied store rs) q ≡ finite.get store q
+      at : (q : List ℕ) (found : Option Entry) → finite.get last q ≡ found
+          → finite.get (applied store rs) q ≡ finite.get store q
       at q None none = over.absent q none
       at q (Some e) some = over.there q e some ∙ sym (told q e some some)
 
@@ -87,7 +105,8 @@ module _ (store last : Store) (rs : List Record) (sets : AllByRecursion IsSet rs
   agree-back back = each rs
     where
       one : (r : Record) → Agrees last store r
-      one (Set key value) = λ at. sym (ap (λ (s : Store). finite.get s key) back) ∙ over.there key (string_entry value None) at
+      one (Set key value) = λ at. sym (ap (λ (s : Store). finite.get s key) back)
+          ∙ over.there key (string_entry value None) at
       one _ = tt
 
       each : (xs : List Record) → AllByRecursion (Agrees last store) xs

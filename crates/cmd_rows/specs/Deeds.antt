@@ -13,7 +13,8 @@ use Rattle.cmd_rows.specs.Outcomes.{Outcome}
 
 -- on this store the outcome gave this reply and this store, the records that are kept of it were added
 -- to those before, and so many draws were taken
-pub record Did (store : Store) (outcome : Outcome) (reply : Reply) (after : Store) (old new : List Record) (drawn : ℕ) : Type 0 where
+pub record Did (store : Store) (outcome : Outcome) (reply : Reply) (after : Store) (old new : List Record)
+    (drawn : ℕ) : Type 0 where
   pub reply_is : reply ≡ outcome.reply
   pub store_is : after ≡ applied store outcome.records
   pub records_are : new ≡ old ++ settled store outcome.records

@@ -13,5 +13,6 @@ IsSet _ = ⊥
 
 -- where the one store has at the key of a SET what that sets, the other store has it too
 abbrev pub Agrees : Store → Store → Record → Type 0
-Agrees last store (Set key value) = finite.get last key ≡ Some (string_entry value None) → finite.get store key ≡ Some (string_entry value None)
+Agrees last store (Set key value) = finite.get last key ≡ Some (string_entry value None)
+    → finite.get store key ≡ Some (string_entry value None)
 Agrees last store _ = Unit {0}

@@ -1,5 +1,6 @@
 -- The deadlines that commands give (Redis manual, EXPIRE, PEXPIRE, EXPIREAT, PEXPIREAT and the options of SET).
-use Rattle.std.specs.Prelude.{ℕ, suc, ◌^◌, nat_le, nat_lt, if◌then◌else◌, ℤ, pos, negsuc, ◌+ℤ◌, ◌*ℤ◌, List, Result, Ok, Err}
+use Rattle.std.specs.Prelude.{ℕ, suc, ◌^◌, nat_le, nat_lt, if◌then◌else◌, ℤ, pos, negsuc, ◌+ℤ◌, ◌*ℤ◌, List, Result}
+use Rattle.std.specs.Prelude.{Ok, Err}
 use Rattle.cmd_args.specs.declared.commands.CmdId.{CmdId}
 use Rattle.cmd_args.specs.declared.refusal.Refusal.{Refusal}
 use Rattle.cmd_args.specs.declared.refusal.Refusal.TheVariants.{ExpireTime}
@@ -26,7 +27,8 @@ deadline command kind now n = deadline_in command n (moment kind now n)
 
 -- the time at which EXPIRE and its kin let a key expire: within 64 signed bits
 abbrev pub expire_time : CmdId → Expiry → ℕ → ℤ → Result ℤ Refusal
-expire_time command kind now n = if is_within_64 (moment kind now n) then Ok (moment kind now n) else Err (ExpireTime command)
+expire_time command kind now n =
+    if is_within_64 (moment kind now n) then Ok (moment kind now n) else Err (ExpireTime command)
 
 -- a string until a deadline: where it is past already, the key leaves instead
 abbrev pub set_until : List ℕ → List ℕ → ℕ → ℕ → Record

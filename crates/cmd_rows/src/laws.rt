@@ -13,9 +13,12 @@ pub fn a_number_is_the_integer_that_a_word_spells()
     ensures { (word : List ℕ) (z : ℤ) → number word ≡ Ok z ↔ ((word ≡ integer_text z) × FitsSigned w64 z) }
 {}
 
-/// Records within the limits that give no deadline that is past keep a store within them, and its deadlines from the past.
+/// Records within the limits that give no deadline that is past keep a store within them, and its deadlines from the
+/// past.
 pub fn records_that_keep_to_time_and_limits()
-    ensures limits { (time : ℕ) (store : Store) (records : List Record) → IsStore store → AreTimelyWithin time records → IsStore (applied store records) }
-    ensures time { (time : ℕ) (store : Store) (records : List Record) → IsTimely store time → AreTimelyWithin time records
+    ensures limits { (time : ℕ) (store : Store) (records : List Record) → IsStore store → AreTimelyWithin time records
+        → IsStore (applied store records) }
+    ensures time { (time : ℕ) (store : Store) (records : List Record) → IsTimely store time
+        → AreTimelyWithin time records
         → IsTimely (applied store records) time }
 {}

@@ -23,7 +23,8 @@ pub fn answered(alloc: Global, gave: Result<Reply, Stop>) -> Result<Reply, NoMem
 
 /// The word at a place, that of the name being 0. Refused where there is none.
 pub fn word(words: &Words, place: usize) -> Result<&Bytes, Refusal>
-    ensures { MatchResult result (λ word. word_at words.now place ≡ Ok word.now) (λ why. word_at words.now place ≡ Err why) }
+    ensures { MatchResult result (λ word. word_at words.now place ≡ Ok word.now)
+        (λ why. word_at words.now place ≡ Err why) }
 {
     words.get(place).ok_or(Refusal::Syntax)
 }

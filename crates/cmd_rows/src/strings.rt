@@ -8,7 +8,8 @@ use rs_base::Bytes;
 
 /// The string at a key: `None` exactly where the key is absent. A key of another kind is refused.
 pub fn string_at<'a>(space: &'a Space, key: &Bytes) -> Result<Option<&'a Bytes>, Refusal>
-    ensures value { MatchResult result (λ text. string_at space.now key.now ≡ Ok (option_copied text)) (λ why. string_at space.now key.now ≡ Err why) }
+    ensures value { MatchResult result (λ text. string_at space.now key.now ≡ Ok (option_copied text))
+        (λ why. string_at space.now key.now ≡ Err why) }
     ensures short { IfOk result (λ text. IfSome text (λ t. IsShort t.now)) }
 {
     match space.get(key.as_slice()) {

@@ -19,8 +19,8 @@ pub enum Expiry {
     AtMillis,
 }
 
-/// The deadline, in milliseconds since the Unix epoch, of a string that is written or read with one, as by SET with EX or
-/// PX. Refused where `n` is below 1 or the deadline past 2^63-1.
+/// The deadline, in milliseconds since the Unix epoch, of a string that is written or read with one, as by SET with
+/// EX or PX. Refused where `n` is below 1 or the deadline past 2^63-1.
 pub fn deadline(command: CmdId, kind: Expiry, now: u64, n: i64) -> Result<u64, Refusal>
     ensures value { result ≡ deadline command kind now n }
     ensures within { IfOk result IsDeadline }
@@ -34,8 +34,8 @@ pub fn deadline(command: CmdId, kind: Expiry, now: u64, n: i64) -> Result<u64, R
     }
 }
 
-/// The time, in milliseconds since the Unix epoch, at which EXPIRE or one of its kin lets a key expire. Refused where it is
-/// not within 64 signed bits.
+/// The time, in milliseconds since the Unix epoch, at which EXPIRE or one of its kin lets a key expire. Refused where
+/// it is not within 64 signed bits.
 pub fn expire_time(command: CmdId, kind: Expiry, now: u64, n: i64) -> Result<i64, Refusal>
     ensures { result ≡ expire_time command kind now n }
 {

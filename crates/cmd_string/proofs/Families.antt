@@ -3,14 +3,16 @@ use Rattle.std.proofs.Common.{◌≡◌, ℕ, List, ◌⊎◌, inl, inr, Result,
 use Rattle.resp_reply.specs.declared.reply.Reply.{Reply}
 use Rattle.ks_space.specs.Store.{Store}
 use Rattle.cmd_args.specs.declared.commands.CmdId.{CmdId}
-use Rattle.cmd_args.specs.declared.commands.CmdId.TheVariants.{Get, Set, SetNx, SetEx, PSetEx, GetSet, GetDel, GetEx, MGet, StrLen, GetRange}
+use Rattle.cmd_args.specs.declared.commands.CmdId.TheVariants.{Get, Set, SetNx, SetEx, PSetEx, GetSet, GetDel, GetEx}
+use Rattle.cmd_args.specs.declared.commands.CmdId.TheVariants.{MGet, StrLen, GetRange}
 use Rattle.cmd_rows.specs.declared.stop.Stop.{Stop}
 use Rattle.cmd_rows.specs.declared.stop.Stop.TheVariants.{Refused, NoMemory}
 use Rattle.cmd_rows.specs.Deeds.{IfAnswered}
 use Rattle.cmd_string.specs.StringTable.{reading_row, setting_row, changing_row, string_row}
 
 -- what follows from what is so of the reply
-pub answered-map : (gave : Result Reply Stop) (P Q : Reply → Type 0) → ((reply : Reply) → P reply → Q reply) → IfAnswered gave P → IfAnswered gave Q
+pub answered-map : (gave : Result Reply Stop) (P Q : Reply → Type 0) → ((reply : Reply) → P reply → Q reply)
+    → IfAnswered gave P → IfAnswered gave Q
 answered-map (Ok reply) P Q follows is = follows reply is
 answered-map (Err (Refused why)) P Q follows is = follows _ is
 answered-map (Err NoMemory) P Q follows is = tt
@@ -22,14 +24,16 @@ module _ (store : Store) (now : ℕ) (words : List (List ℕ)) where
   abbrev Sets : CmdId → Type 0
   Sets id = string_row store now id words ≡ setting_row store now id words
 
-  pub string_row-reading : (id : CmdId) → (id ≡ Get) ⊎ (id ≡ MGet) ⊎ (id ≡ StrLen) ⊎ (id ≡ GetRange) → string_row store now id words ≡ reading_row store id words
+  pub string_row-reading : (id : CmdId) → (id ≡ Get) ⊎ (id ≡ MGet) ⊎ (id ≡ StrLen) ⊎ (id ≡ GetRange)
+      → string_row store now id words ≡ reading_row store id words
   unfolding string_row
   string_row-reading id (inl e) = subst Reads (sym e) refl
   string_row-reading id (inr (inl e)) = subst Reads (sym e) refl
   string_row-reading id (inr (inr (inl e))) = subst Reads (sym e) refl
   string_row-reading id (inr (inr (inr e))) = subst Reads (sym e) refl
 
-  pub string_row-setting : (id : CmdId) → (id ≡ Set) ⊎ (id ≡ SetNx) ⊎ (id ≡ SetEx) ⊎ (id ≡ PSetEx) ⊎ (id ≡ GetSet) ⊎ (id ≡ GetDel) ⊎ (id ≡ GetEx)
+  pub string_row-setting : (id : CmdId) → (id ≡ Set) ⊎ (id ≡ SetNx) ⊎ (id ≡ SetEx) ⊎ (id ≡ PSetEx) ⊎ (id ≡ GetSet)
+      ⊎ (id ≡ GetDel) ⊎ (id ≡ GetEx)
       → string_row store now id words ≡ setting_row store now id words
   unfolding string_row
   string_row-setting id (inl e) = subst Sets (sym e) refl
@@ -40,7 +44,8 @@ module _ (store : Store) (now : ℕ) (words : List (List ℕ)) where
   string_row-setting id (inr (inr (inr (inr (inr (inl e)))))) = subst Sets (sym e) refl
   string_row-setting id (inr (inr (inr (inr (inr (inr e)))))) = subst Sets (sym e) refl
 
-  pub string_row-changing : (id : CmdId) → (id ≡ Get → ⊥) → (id ≡ MGet → ⊥) → (id ≡ StrLen → ⊥) → (id ≡ GetRange → ⊥) → (id ≡ Set → ⊥) → (id ≡ SetNx → ⊥)
+  pub string_row-changing : (id : CmdId) → (id ≡ Get → ⊥) → (id ≡ MGet → ⊥) → (id ≡ StrLen → ⊥) → (id ≡ GetRange → ⊥)
+      → (id ≡ Set → ⊥) → (id ≡ SetNx → ⊥)
       → (id ≡ SetEx → ⊥) → (id ≡ PSetEx → ⊥) → (id ≡ GetSet → ⊥) → (id ≡ GetDel → ⊥) → (id ≡ GetEx → ⊥)
       → string_row store now id words ≡ changing_row store id words
   unfolding string_row

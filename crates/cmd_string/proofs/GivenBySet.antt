@@ -1,5 +1,6 @@
 -- What a GET gives after SET and its kin.
-use Rattle.std.proofs.Common.{◌≡◌, ◌≢◌, ℕ, ◌<◌, ◌≤◌, ◌++◌, length, Bool, true, false, cond, List, [], ◌∷◌, Option, Some, None, Ok, Err, refl, sym, ap, subst, ◌∙◌, true≢false}
+use Rattle.std.proofs.Common.{◌≡◌, ◌≢◌, ℕ, ◌<◌, ◌≤◌, ◌++◌, length, Bool, true, false, cond, List, [], ◌∷◌, Option}
+use Rattle.std.proofs.Common.{Some, None, Ok, Err, refl, sym, ap, subst, ◌∙◌, true≢false}
 use Rattle.std.specs.Prelude.{ℤ, pos, codes, bytes_eq}
 use Rattle.std.specs.Option.{unwrap_or, ok_or, option_or}
 use Rattle.std.specs.Result.{result_ok}
@@ -28,56 +29,84 @@ use Rattle.cmd_string.specs.Ranges.{written_over}
 use Rattle.cmd_string.specs.Found.{then_found}
 use Rattle.cmd_string.specs.declared.options.Lasting.TheVariants.{Until}
 use Rattle.cmd_string.specs.declared.getex.Change.TheVariants.{ExpireAt}
-use Rattle.cmd_string.specs.StringRows.{set_row, setex_row, getset_row, getdel_row, getex_row, mset_row, has_any, msetnx_row, grown_row, append_row, range_row, setrange_row, integer_at, fitting, kept_row, counted_row}
+use Rattle.cmd_string.specs.StringRows.{set_row, setex_row, getset_row, getdel_row, getex_row, mset_row, has_any}
+use Rattle.cmd_string.specs.StringRows.{msetnx_row, grown_row, append_row, range_row, setrange_row, integer_at}
+use Rattle.cmd_string.specs.StringRows.{fitting, kept_row, counted_row}
 use Rattle.cmd_string.specs.StringLaws.{after, Gives, expiry_word, last_string}
 use Rattle.cmd_string.proofs.Given.{gives, gives-put, gives-due, until-later, until-past, expire-later}
 
 -- SET with a deadline
-until-effect : (now : ℕ) (key value : List ℕ) (kind : Expiry) (word : List ℕ) (n : ℤ) (at : ℕ) → number word ≡ Ok n → deadline command.Set kind now n ≡ Ok at
+until-effect : (now : ℕ) (key value : List ℕ) (kind : Expiry) (word : List ℕ) (n : ℤ) (at : ℕ) → number word ≡ Ok n
+    → deadline command.Set kind now n ≡ Ok at
     → set_effect now key value (Some (Until kind (result_ok (number word)))) ≡ Ok (set_until key value now at)
 until-effect now key value kind word n at e f =
-    ap (λ r. then_found (then_found (ok_or (result_ok r) NotInteger) (deadline command.Set kind now)) (λ at. Ok (set_until key value now at))) e
+    ap (λ r. then_found (then_found (ok_or (result_ok r) NotInteger) (deadline command.Set kind now))
+    (λ at. Ok (set_until key value now at))) e
     ∙ ap (λ d. then_found d (λ at. Ok (set_until key value now at))) f
 
-set_until-row : (store : Store) (now : ℕ) (key value : List ℕ) (kind : Expiry) (word : List ℕ) (n : ℤ) (at : ℕ) → number word ≡ Ok n
-    → deadline command.Set kind now n ≡ Ok at → set_row store now key value (expiry_word kind ∷ word ∷ []) ≡ does ok (set_until key value now at ∷ [])
-set_until-row store now key value InSeconds word n at e f = ap (λ r. with_found r (λ effect. does ok (effect ∷ []))) (until-effect now key value InSeconds word n at e f)
-set_until-row store now key value InMillis word n at e f = ap (λ r. with_found r (λ effect. does ok (effect ∷ []))) (until-effect now key value InMillis word n at e f)
-set_until-row store now key value AtSecond word n at e f = ap (λ r. with_found r (λ effect. does ok (effect ∷ []))) (until-effect now key value AtSecond word n at e f)
-set_until-row store now key value AtMillis word n at e f = ap (λ r. with_found r (λ effect. does ok (effect ∷ []))) (until-effect now key value AtMillis word n at e f)
+set_until-row : (store : Store) (now : ℕ) (key value : List ℕ) (kind : Expiry) (word : List ℕ) (n : ℤ) (at : ℕ)
+    → number word ≡ Ok n
+    → deadline command.Set kind now n ≡ Ok at
+    → set_row store now key value (expiry_word kind ∷ word ∷ []) ≡ does ok (set_until key value now at ∷ [])
+set_until-row store now key value InSeconds word n at e f =
+    ap (λ r. with_found r (λ effect. does ok (effect ∷ []))) (until-effect now key value InSeconds word n at e f)
+set_until-row store now key value InMillis word n at e f =
+    ap (λ r. with_found r (λ effect. does ok (effect ∷ []))) (until-effect now key value InMillis word n at e f)
+set_until-row store now key value AtSecond word n at e f =
+    ap (λ r. with_found r (λ effect. does ok (effect ∷ []))) (until-effect now key value AtSecond word n at e f)
+set_until-row store now key value AtMillis word n at e f =
+    ap (λ r. with_found r (λ effect. does ok (effect ∷ []))) (until-effect now key value AtMillis word n at e f)
 
-pub set_until-given : (store : Store) (now : ℕ) (key value : List ℕ) (kind : Expiry) (word : List ℕ) (n : ℤ) (at : ℕ) → number word ≡ Ok n
-    → deadline command.Set kind now n ≡ Ok at → now < at → Gives (after store (set_row store now key value (expiry_word kind ∷ word ∷ []))) key value (Some at)
+pub set_until-given : (store : Store) (now : ℕ) (key value : List ℕ) (kind : Expiry) (word : List ℕ) (n : ℤ) (at : ℕ)
+    → number word ≡ Ok n
+    → deadline command.Set kind now n ≡ Ok at → now < at
+    → Gives (after store (set_row store now key value (expiry_word kind ∷ word ∷ []))) key value (Some at)
 set_until-given store now key value kind word n at e f later =
-    subst (λ (row : Outcome). Gives (after store row) key value (Some at)) (sym (set_until-row store now key value kind word n at e f))
-    (subst (λ (r : Record). Gives (apply store r) key value (Some at)) (sym (until-later key value now at later)) (gives-put store key value (Some at)))
+    subst (λ (row : Outcome). Gives (after store row) key value (Some at))
+    (sym (set_until-row store now key value kind word n at e f))
+    (subst (λ (r : Record). Gives (apply store r) key value (Some at)) (sym (until-later key value now at later))
+    (gives-put store key value (Some at)))
 
-pub set_until-gone : (store : Store) (now : ℕ) (key value : List ℕ) (kind : Expiry) (word : List ℕ) (n : ℤ) (at : ℕ) → number word ≡ Ok n
-    → deadline command.Set kind now n ≡ Ok at → at ≤ now → finite.get (after store (set_row store now key value (expiry_word kind ∷ word ∷ []))) key ≡ None
+pub set_until-gone : (store : Store) (now : ℕ) (key value : List ℕ) (kind : Expiry) (word : List ℕ) (n : ℤ) (at : ℕ)
+    → number word ≡ Ok n
+    → deadline command.Set kind now n ≡ Ok at → at ≤ now
+    → finite.get (after store (set_row store now key value (expiry_word kind ∷ word ∷ []))) key ≡ None
 set_until-gone store now key value kind word n at e f past =
-    subst (λ (row : Outcome). finite.get (after store row) key ≡ None) (sym (set_until-row store now key value kind word n at e f))
-    (subst (λ (r : Record). finite.get (apply store r) key ≡ None) (sym (until-past key value now at past)) (get-remove_same store key))
+    subst (λ (row : Outcome). finite.get (after store row) key ≡ None)
+    (sym (set_until-row store now key value kind word n at e f))
+    (subst (λ (r : Record). finite.get (apply store r) key ≡ None) (sym (until-past key value now at past))
+    (get-remove_same store key))
 
-pub setex-given : (store : Store) (id : CmdId) (kind : Expiry) (now : ℕ) (key time value : List ℕ) (n : ℤ) (at : ℕ) → number time ≡ Ok n
-    → deadline id kind now n ≡ Ok at → now < at → Gives (after store (setex_row id kind now key time value)) key value (Some at)
+pub setex-given : (store : Store) (id : CmdId) (kind : Expiry) (now : ℕ) (key time value : List ℕ) (n : ℤ) (at : ℕ)
+    → number time ≡ Ok n
+    → deadline id kind now n ≡ Ok at → now < at
+    → Gives (after store (setex_row id kind now key time value)) key value (Some at)
 setex-given store id kind now key time value n at e f later =
     let row : setex_row id kind now key time value ≡ does ok (set_until key value now at ∷ []) =
-    ap (λ r. with_found r (λ n. with_found (deadline id kind now n) (λ at. does ok (set_until key value now at ∷ [])))) e
+    ap (λ r. with_found r (λ n. with_found (deadline id kind now n)
+    (λ at. does ok (set_until key value now at ∷ [])))) e
     ∙ ap (λ d. with_found d (λ at. does ok (set_until key value now at ∷ []))) f in
     subst (λ (o : Outcome). Gives (after store o) key value (Some at)) (sym row)
-    (subst (λ (r : Record). Gives (apply store r) key value (Some at)) (sym (until-later key value now at later)) (gives-put store key value (Some at)))
+    (subst (λ (r : Record). Gives (apply store r) key value (Some at)) (sym (until-later key value now at later))
+    (gives-put store key value (Some at)))
 
-pub getset-given : (store : Store) (key value : List ℕ) (old : Option (List ℕ)) → string_at store key ≡ Ok old → Gives (after store (getset_row store key value)) key value None
+pub getset-given : (store : Store) (key value : List ℕ) (old : Option (List ℕ)) → string_at store key ≡ Ok old
+    → Gives (after store (getset_row store key value)) key value None
 getset-given store key value old e =
-    subst (λ f. Gives (after store (with_found f (λ old. does (bulk_or_null old) (Set key value ∷ [])))) key value None) (sym e) (gives-put store key value None)
+    subst (λ f. Gives (after store (with_found f (λ old. does (bulk_or_null old) (Set key value ∷ [])))) key value
+    None) (sym e) (gives-put store key value None)
 
-pub getdel-gone : (store : Store) (key : List ℕ) (text : Option (List ℕ)) → string_at store key ≡ Ok text → finite.get (after store (getdel_row store key)) key ≡ None
+pub getdel-gone : (store : Store) (key : List ℕ) (text : Option (List ℕ)) → string_at store key ≡ Ok text
+    → finite.get (after store (getdel_row store key)) key ≡ None
 getdel-gone store key text e =
-    subst (λ f. finite.get (after store (with_found f (λ old. does (bulk_or_null old) (Del key ∷ [])))) key ≡ None) (sym e) (get-remove_same store key)
+    subst (λ f. finite.get (after store (with_found f (λ old. does (bulk_or_null old) (Del key ∷ [])))) key ≡ None)
+    (sym e) (get-remove_same store key)
 
 -- GETEX with another deadline
-due-given : (store : Store) (key text : List ℕ) (effects : List Record) (deadline : Option ℕ) → string_at store key ≡ Ok (Some text)
-    → applied store effects ≡ with_deadline store key deadline → Gives (after store (with_string store key (λ t. does (bulk_or_null t) effects))) key text deadline
+due-given : (store : Store) (key text : List ℕ) (effects : List Record) (deadline : Option ℕ)
+    → string_at store key ≡ Ok (Some text)
+    → applied store effects ≡ with_deadline store key deadline
+    → Gives (after store (with_string store key (λ t. does (bulk_or_null t) effects))) key text deadline
 due-given store key text effects deadline e is =
     subst (λ f. Gives (after store (with_found f (λ t. does (bulk_or_null t) effects))) key text deadline) (sym e)
     (subst (λ (s : Store). Gives s key text deadline) (sym is) (gives-due store key text deadline e))
@@ -86,64 +115,84 @@ pub persist-given : (store : Store) (now : ℕ) (key text : List ℕ) → string
     → Gives (after store (getex_row store now key (codes "PERSIST" ∷ []))) key text None
 persist-given store now key text e = due-given store key text (effect.Persist key ∷ []) None e refl
 
-change-until : (now : ℕ) (kind : Expiry) (word : List ℕ) (n : ℤ) (at : ℕ) → number word ≡ Ok n → deadline command.GetEx kind now n ≡ Ok at
-    → then_found (deadline_read command.GetEx now kind (result_ok (number word))) (λ at. Ok (ExpireAt at)) ≡ Ok (ExpireAt at)
+change-until : (now : ℕ) (kind : Expiry) (word : List ℕ) (n : ℤ) (at : ℕ) → number word ≡ Ok n
+    → deadline command.GetEx kind now n ≡ Ok at
+    → then_found (deadline_read command.GetEx now kind (result_ok (number word))) (λ at. Ok (ExpireAt at))
+    ≡ Ok (ExpireAt at)
 change-until now kind word n at e f =
-    ap (λ r. then_found (then_found (ok_or (result_ok r) NotInteger) (deadline command.GetEx kind now)) (λ at. Ok (ExpireAt at))) e
+    ap (λ r. then_found (then_found (ok_or (result_ok r) NotInteger) (deadline command.GetEx kind now))
+    (λ at. Ok (ExpireAt at))) e
     ∙ ap (λ d. then_found d (λ at. Ok (ExpireAt at))) f
 
-pub change-read : (now : ℕ) (kind : Expiry) (word : List ℕ) (n : ℤ) (at : ℕ) → number word ≡ Ok n → deadline command.GetEx kind now n ≡ Ok at
+pub change-read : (now : ℕ) (kind : Expiry) (word : List ℕ) (n : ℤ) (at : ℕ) → number word ≡ Ok n
+    → deadline command.GetEx kind now n ≡ Ok at
     → getex_change now (expiry_word kind ∷ word ∷ []) ≡ Ok (ExpireAt at)
 change-read now InSeconds word n at e f = change-until now InSeconds word n at e f
 change-read now InMillis word n at e f = change-until now InMillis word n at e f
 change-read now AtSecond word n at e f = change-until now AtSecond word n at e f
 change-read now AtMillis word n at e f = change-until now AtMillis word n at e f
 
-pub getex-given : (store : Store) (now : ℕ) (key text : List ℕ) (kind : Expiry) (word : List ℕ) (n : ℤ) (at : ℕ) → string_at store key ≡ Ok (Some text)
-    → number word ≡ Ok n → deadline command.GetEx kind now n ≡ Ok at → now < at → Gives (after store (getex_row store now key (expiry_word kind ∷ word ∷ []))) key text (Some at)
+pub getex-given : (store : Store) (now : ℕ) (key text : List ℕ) (kind : Expiry) (word : List ℕ) (n : ℤ) (at : ℕ)
+    → string_at store key ≡ Ok (Some text)
+    → number word ≡ Ok n → deadline command.GetEx kind now n ≡ Ok at → now < at
+    → Gives (after store (getex_row store now key (expiry_word kind ∷ word ∷ []))) key text (Some at)
 getex-given store now key text kind word n at there e f later =
-    subst (λ f. Gives (after store (with_found f (λ change. with_string store key (λ t. does (bulk_or_null t) (change_effects now key change))))) key text (Some at))
+    subst (λ f. Gives (after store (with_found f
+    (λ change. with_string store key (λ t. does (bulk_or_null t) (change_effects now key change))))) key text
+    (Some at))
     (sym (change-read now kind word n at e f))
-    (due-given store key text (expire_at key now (pos at) ∷ []) (Some at) there (ap (apply store) (expire-later key now at later)))
+    (due-given store key text (expire_at key now (pos at) ∷ []) (Some at) there
+    (ap (apply store) (expire-later key now at later)))
 
 -- a string in place of the old one
-pub grown-given : (store : Store) (key text : List ℕ) → IsShort text → Gives (after store (grown_row key text)) key text (deadline_at store key)
+pub grown-given : (store : Store) (key text : List ℕ) → IsShort text
+    → Gives (after store (grown_row key text)) key text (deadline_at store key)
 grown-given store key text short =
-    subst (λ b. Gives (after store (with_found (cond b (Ok text) (Err TooLong)) (λ new. does (Int (pos (length new))) (SetKeeping key new ∷ [])))) key text (deadline_at store key))
+    subst (λ b. Gives (after store (with_found (cond b (Ok text) (Err TooLong))
+    (λ new. does (Int (pos (length new))) (SetKeeping key new ∷ [])))) key text (deadline_at store key))
     (sym (le-leb (length text) 16777216 short)) (gives-put store key text (deadline_at store key))
 
-pub append-given : (store : Store) (key value : List ℕ) (old : Option (List ℕ)) → string_at store key ≡ Ok old → IsShort (unwrap_or old [] ++ value)
+pub append-given : (store : Store) (key value : List ℕ) (old : Option (List ℕ)) → string_at store key ≡ Ok old
+    → IsShort (unwrap_or old [] ++ value)
     → Gives (after store (append_row store key value)) key (unwrap_or old [] ++ value) (deadline_at store key)
 append-given store key value old e short =
-    subst (λ f. Gives (after store (with_found f (λ o. grown_row key (unwrap_or o [] ++ value)))) key (unwrap_or old [] ++ value) (deadline_at store key)) (sym e)
+    subst (λ f. Gives (after store (with_found f (λ o. grown_row key (unwrap_or o [] ++ value)))) key
+    (unwrap_or old [] ++ value) (deadline_at store key)) (sym e)
     (grown-given store key (unwrap_or old [] ++ value) short)
 
-range-grown : (key old value : List ℕ) (offset : ℕ) → value ≢ [] → range_row key old (pos offset) value ≡ grown_row key (written_over old offset value)
+range-grown : (key old value : List ℕ) (offset : ℕ) → value ≢ []
+    → range_row key old (pos offset) value ≡ grown_row key (written_over old offset value)
 range-grown key old [] offset some = absurd (some refl)
 range-grown key old (byte ∷ value) offset some = refl
 
-pub setrange-given : (store : Store) (key word value : List ℕ) (offset : ℕ) (old : Option (List ℕ)) → string_at store key ≡ Ok old → number word ≡ Ok (pos offset)
+pub setrange-given : (store : Store) (key word value : List ℕ) (offset : ℕ) (old : Option (List ℕ))
+    → string_at store key ≡ Ok old → number word ≡ Ok (pos offset)
     → value ≢ [] → IsShort (written_over (unwrap_or old []) offset value)
-    → Gives (after store (setrange_row store key word value)) key (written_over (unwrap_or old []) offset value) (deadline_at store key)
+    → Gives (after store (setrange_row store key word value)) key (written_over (unwrap_or old []) offset value)
+    (deadline_at store key)
 setrange-given store key word value offset old e f some short =
     let new = written_over (unwrap_or old []) offset value in
     let row : setrange_row store key word value ≡ grown_row key new =
     ap (λ r. with_found r (λ at. with_string store key (λ o. range_row key (unwrap_or o []) at value))) f
     ∙ ap (λ s. with_found s (λ o. range_row key (unwrap_or o []) (pos offset) value)) e
     ∙ range-grown key (unwrap_or old []) value offset some in
-    subst (λ (o : Outcome). Gives (after store o) key new (deadline_at store key)) (sym row) (grown-given store key new short)
+    subst (λ (o : Outcome). Gives (after store o) key new (deadline_at store key)) (sym row)
+    (grown-given store key new short)
 
 -- an integer that was counted
-counted-kept : (store : Store) (key : List ℕ) (change : ℤ → ℤ) (m : ℤ) → integer_at store key ≡ Ok m → is_within_64 (change m) ≡ true
+counted-kept : (store : Store) (key : List ℕ) (change : ℤ → ℤ) (m : ℤ) → integer_at store key ≡ Ok m
+    → is_within_64 (change m) ≡ true
     → counted_row store key change ≡ kept_row key (change m)
 counted-kept store key change m e fits =
     ap (λ f. with_found f (λ n. with_found (fitting (change n)) (kept_row key))) e
     ∙ ap (λ b. with_found (cond b (Ok (change m)) (Err Overflow)) (kept_row key)) fits
 
-pub counted-given : (store : Store) (key : List ℕ) (change : ℤ → ℤ) (m : ℤ) → integer_at store key ≡ Ok m → is_within_64 (change m) ≡ true
+pub counted-given : (store : Store) (key : List ℕ) (change : ℤ → ℤ) (m : ℤ) → integer_at store key ≡ Ok m
+    → is_within_64 (change m) ≡ true
     → Gives (after store (counted_row store key change)) key (integer_text (change m)) (deadline_at store key)
 counted-given store key change m e fits =
-    subst (λ (o : Outcome). Gives (after store o) key (integer_text (change m)) (deadline_at store key)) (sym (counted-kept store key change m e fits))
+    subst (λ (o : Outcome). Gives (after store o) key (integer_text (change m)) (deadline_at store key))
+    (sym (counted-kept store key change m e fits))
     (gives-put store key (integer_text (change m)) (deadline_at store key))
 
 -- the last pair of a key
@@ -155,46 +204,62 @@ other_key : (b : Bool) (value : List ℕ) → ◌≡◌ {A = Option (List ℕ)} 
 other_key true value e = absurd (cc)
 other_key false value e = refl
 
-mset-other : (store : Store) (key : List ℕ) (pairs : List (List ℕ)) → last_string key pairs ≡ None → finite.get (applied store (sets_of pairs)) key ≡ finite.get store key
+mset-other : (store : Store) (key : List ℕ) (pairs : List (List ℕ)) → last_string key pairs ≡ None
+    → finite.get (applied store (sets_of pairs)) key ≡ finite.get store key
 mset-other store key [] e = refl
 mset-other store key (other ∷ []) e = refl
 mset-other store key (other ∷ value ∷ pairs) e =
     let parts = both_none (last_string key pairs) (cond (bytes_eq other key) (Some value) None) e in
-    let differ : key ≢ other = λ same. true≢false (sym ((bytes_eq-Decides other key).1 (sym same)) ∙ other_key (bytes_eq other key) value parts.1) in
-    mset-other (finite.insert store other (string_entry value None)) key pairs parts.0 ∙ get-insert_other store other (string_entry value None) key differ
+    let differ : key ≢ other = λ same.
+    true≢false (sym ((bytes_eq-Decides other key).1 (sym same)) ∙ other_key (bytes_eq other key) value parts.1) in
+    mset-other (finite.insert store other (string_entry value None)) key pairs parts.0
+    ∙ get-insert_other store other (string_entry value None) key differ
 
-here_given : (store : Store) (key other word value : List ℕ) (b : Bool) → bytes_eq other key ≡ b → ◌≡◌ {A = Option (List ℕ)} (cond b (Some word) None) (Some value)
+here_given : (store : Store) (key other word value : List ℕ) (b : Bool) → bytes_eq other key ≡ b
+    → ◌≡◌ {A = Option (List ℕ)} (cond b (Some word) None) (Some value)
     → finite.get (finite.insert store other (string_entry word None)) key ≡ Some (string_entry value None)
 here_given store key other word value true is f =
     let same : word ≡ value = cc in
     let key_is : other ≡ key = (bytes_eq-Decides other key).0 is in
-    subst (λ k. finite.get (finite.insert store other (string_entry word None)) k ≡ Some (string_entry value None)) key_is
+    subst (λ k. finite.get (finite.insert store other (string_entry word None)) k ≡ Some (string_entry value None))
+    key_is
     (get-insert_same store other (string_entry word None) ∙ ap (λ t. Some (string_entry t None)) same)
 here_given store key other word value false is f = absurd (cc)
 
-mset-step : (store : Store) (key other word : List ℕ) (pairs : List (List ℕ)) (value : List ℕ) (later : Option (List ℕ)) → last_string key pairs ≡ later
+mset-step : (store : Store) (key other word : List ℕ) (pairs : List (List ℕ)) (value : List ℕ)
+    (later : Option (List ℕ)) → last_string key pairs ≡ later
     → ◌≡◌ {A = Option (List ℕ)} (option_or later (cond (bytes_eq other key) (Some word) None)) (Some value)
-    → (last_string key pairs ≡ Some value → finite.get (applied (finite.insert store other (string_entry word None)) (sets_of pairs)) key ≡ Some (string_entry value None))
-    → finite.get (applied (finite.insert store other (string_entry word None)) (sets_of pairs)) key ≡ Some (string_entry value None)
+    → (last_string key pairs ≡ Some value
+    → finite.get (applied (finite.insert store other (string_entry word None)) (sets_of pairs)) key
+    ≡ Some (string_entry value None))
+    → finite.get (applied (finite.insert store other (string_entry word None)) (sets_of pairs)) key
+    ≡ Some (string_entry value None)
 mset-step store key other word pairs value (Some v) is e later_given = later_given (is ∙ e)
 mset-step store key other word pairs value None is e later_given =
-    mset-other (finite.insert store other (string_entry word None)) key pairs is ∙ here_given store key other word value (bytes_eq other key) refl e
+    mset-other (finite.insert store other (string_entry word None)) key pairs is
+    ∙ here_given store key other word value (bytes_eq other key) refl e
 
 mset-last : (store : Store) (key : List ℕ) (pairs : List (List ℕ)) (value : List ℕ) → last_string key pairs ≡ Some value
     → finite.get (applied store (sets_of pairs)) key ≡ Some (string_entry value None)
 mset-last store key [] value e = absurd (cc)
 mset-last store key (other ∷ []) value e = absurd (cc)
 mset-last store key (other ∷ word ∷ pairs) value e =
-    mset-step store key other word pairs value (last_string key pairs) refl e (λ is. mset-last (finite.insert store other (string_entry word None)) key pairs value is)
+    mset-step store key other word pairs value (last_string key pairs) refl e
+    (λ is. mset-last (finite.insert store other (string_entry word None)) key pairs value is)
 
-pub mset-given : (store : Store) (name key value : List ℕ) (pairs : List (List ℕ)) → last_string key pairs ≡ Some value → Gives (after store (mset_row (name ∷ pairs))) key value None
-mset-given store name key value pairs e = gives (applied store (sets_of pairs)) key value None (mset-last store key pairs value e)
+pub mset-given : (store : Store) (name key value : List ℕ) (pairs : List (List ℕ))
+    → last_string key pairs ≡ Some value → Gives (after store (mset_row (name ∷ pairs))) key value None
+mset-given store name key value pairs e =
+    gives (applied store (sets_of pairs)) key value None (mset-last store key pairs value e)
 
-pub msetnx-given : (store : Store) (name key value : List ℕ) (pairs : List (List ℕ)) → has_any store pairs ≡ false → last_string key pairs ≡ Some value
+pub msetnx-given : (store : Store) (name key value : List ℕ) (pairs : List (List ℕ)) → has_any store pairs ≡ false
+    → last_string key pairs ≡ Some value
     → Gives (after store (msetnx_row store (name ∷ pairs))) key value None
 msetnx-given store name key value pairs none e =
-    subst (λ b. Gives (after store (cond b (answers (Int (pos 0))) (does (Int (pos 1)) (sets_of pairs)))) key value None) (sym none) (mset-given store name key value pairs e)
+    subst (λ b. Gives (after store (cond b (answers (Int (pos 0))) (does (Int (pos 1)) (sets_of pairs)))) key value
+    None) (sym none) (mset-given store name key value pairs e)
 
-pub msetnx-none : (store : Store) (name : List ℕ) (pairs : List (List ℕ)) → has_any store pairs ≡ true → after store (msetnx_row store (name ∷ pairs)) ≡ store
+pub msetnx-none : (store : Store) (name : List ℕ) (pairs : List (List ℕ)) → has_any store pairs ≡ true
+    → after store (msetnx_row store (name ∷ pairs)) ≡ store
 msetnx-none store name pairs there =
     ap (λ b. after store (cond b (answers (Int (pos 0))) (does (Int (pos 1)) (sets_of pairs)))) there

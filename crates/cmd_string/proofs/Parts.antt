@@ -1,5 +1,6 @@
 -- Words by their places, and strings by their lengths.
-use Rattle.std.proofs.Common.{◌≡◌, ℕ, suc, ◌+◌, ◌<◌, ◌≤◌, false, ◌||◌, List, [], ◌∷◌, length, drop, get_or, refl, sym, ap, ◌∙◌, arith, length-append, length-drop}
+use Rattle.std.proofs.Common.{◌≡◌, ℕ, suc, ◌+◌, ◌<◌, ◌≤◌, false, ◌||◌, List, [], ◌∷◌, length, drop, get_or, refl, sym}
+use Rattle.std.proofs.Common.{ap, ◌∙◌, arith, length-append, length-drop}
 use Rattle.std.proofs.Math.Seq.{drop-cons}
 use Rattle.std.proofs.lemmas.List.{length-take, length-replicate}
 use Rattle.std.specs.Prelude.{◌≢◌, ℤ, pos, negsuc, nat_abs, Result, Ok, Err, MatchResult, IfOk}
@@ -17,14 +18,17 @@ use Rattle.cmd_string.specs.StringRows.{has_any, grown_row, range_row}
 use Rattle.cmd_rows.proofs.WordPlaces.{word_at-all}
 
 -- the first of two words more is a key
-pub any-step : (store : Store) (words : List (List ℕ)) (place : ℕ) (key : List ℕ) → place + 1 < length words → key ≡ get_or words place key
+pub any-step : (store : Store) (words : List (List ℕ)) (place : ℕ) (key : List ℕ) → place + 1 < length words
+    → key ≡ get_or words place key
     → has_any store (drop place words) ≡ (finite.contains_key store key || has_any store (drop (place + 2) words))
 any-step store words place key more is =
     let here : place < length words = omega arith in
     let next : suc place < length words = omega arith in
-    let two : drop place words ≡ get_or words place key ∷ get_or words (suc place) key ∷ drop (suc (suc place)) words = rw (drop-cons words place key, drop-cons words (suc place) key) in
+    let two : drop place words ≡ get_or words place key ∷ get_or words (suc place) key ∷ drop
+    (suc (suc place)) words = rw (drop-cons words place key, drop-cons words (suc place) key) in
     let back : suc (suc place) ≡ place + 2 = omega arith in
-    ap (has_any store) two ∙ ap (λ k. finite.contains_key store k || has_any store (drop (suc (suc place)) words)) (sym is)
+    ap (has_any store) two ∙ ap (λ k. finite.contains_key store k || has_any store (drop (suc (suc place)) words))
+    (sym is)
     ∙ ap (λ n. finite.contains_key store key || has_any store (drop n words)) back
 
 -- one word more is no pair
@@ -33,23 +37,29 @@ few store [] h = refl
 few store (key ∷ []) h = refl
 few store (key ∷ value ∷ words) h = absurd (omega arith)
 
-pub any-end : (store : Store) (words : List (List ℕ)) (place : ℕ) → length words ≤ place + 1 → has_any store (drop place words) ≡ false
+pub any-end : (store : Store) (words : List (List ℕ)) (place : ℕ) → length words ≤ place + 1
+    → has_any store (drop place words) ≡ false
 any-end store words place h = few store (drop place words) (rw length-drop (omega arith))
 
 -- a string that is written too far on is too long
-pub too_far : (key old value : List ℕ) (offset : ℕ) → 16777216 < offset → grown_row key (written_over old offset value) ≡ refused TooLong
+pub too_far : (key old value : List ℕ) (offset : ℕ) → 16777216 < offset
+    → grown_row key (written_over old offset value) ≡ refused TooLong
 too_far key old value offset far =
-    let long : 16777216 < length (written_over old offset value) = simp (length-append, length-take, length-replicate) (omega arith) in
+    let long : 16777216 < length (written_over old offset value) =
+    simp (length-append, length-take, length-replicate) (omega arith) in
     let test = lt-leb (length (written_over old offset value)) 16777216 long in
     rw test
 
 -- the word at a place, of words of which none is too long
-pub short-word : (words : List (List ℕ)) (place : ℕ) (found : Result (Bor (List ℕ)) Refusal) → AllByRecursion IsShort words
-    → MatchResult found (λ word. word_at words place ≡ Ok word.now) (λ why. word_at words place ≡ Err why) → IfOk found (λ word. IsShort word.now)
+pub short-word : (words : List (List ℕ)) (place : ℕ) (found : Result (Bor (List ℕ)) Refusal)
+    → AllByRecursion IsShort words
+    → MatchResult found (λ word. word_at words place ≡ Ok word.now) (λ why. word_at words place ≡ Err why)
+    → IfOk found (λ word. IsShort word.now)
 short-word words place (Ok word) all is = word_at-all IsShort words place word.now all is
 short-word words place (Err why) all is = tt
 
-pub range-far : (key old value : List ℕ) (at : ℤ) → lt_z at (pos 0) ≡ false → 16777216 < nat_abs at → value ≢ [] → range_row key old at value ≡ refused TooLong
+pub range-far : (key old value : List ℕ) (at : ℤ) → lt_z at (pos 0) ≡ false → 16777216 < nat_abs at → value ≢ []
+    → range_row key old at value ≡ refused TooLong
 range-far key old [] (pos offset) after far some = absurd (some refl)
 range-far key old (byte ∷ value) (pos offset) after far some = too_far key old (byte ∷ value) offset far
 range-far key old value (negsuc offset) after far some = absurd (cc)

@@ -17,4 +17,5 @@ with_key_word words row = with_found (word_at words 1) (λ key. with_found (word
 
 abbrev pub with_key_words : List (List ℕ) → (List ℕ → List ℕ → List ℕ → Outcome) → Outcome
 with_key_words words row =
-    with_found (word_at words 1) (λ key. with_found (word_at words 2) (λ word. with_found (word_at words 3) (λ other. row key word other)))
+    with_found (word_at words 1) (λ key.
+    with_found (word_at words 2) (λ word. with_found (word_at words 3) (λ other. row key word other)))

@@ -1,5 +1,6 @@
 -- The options of SET and GETEX (Redis manual).
-use Rattle.std.specs.Prelude.{ℕ, ℤ, Bool, true, false, not, is_none, if◌then◌else◌, pos, List, [], ◌∷◌, Option, Some, None, Result, Ok, Err, codes}
+use Rattle.std.specs.Prelude.{ℕ, ℤ, Bool, true, false, not, is_none, if◌then◌else◌, pos, List, [], ◌∷◌, Option, Some}
+use Rattle.std.specs.Prelude.{None, Result, Ok, Err, codes}
 use Rattle.std.specs.Option.{option_map, ok_or}
 use Rattle.std.specs.Result.{result_ok}
 use Rattle.std.specs.Str.{str_eq_ignore_ascii_case}
@@ -50,11 +51,13 @@ set_word word =
 -- the options with one more: one that stands already, or beside one that excludes it, is refused
 abbrev pub with_option : SetOptions → SetWord → Result Reading Refusal
 with_option options (When condition) =
-    if is_none options.condition then Ok (record { options = record options { condition = Some condition }; waiting = None }) else Err Syntax
+    if is_none options.condition then Ok
+    (record { options = record options { condition = Some condition }; waiting = None }) else Err Syntax
 with_option options Get =
     if options.get then Err Syntax else Ok (record { options = record options { get = true }; waiting = None })
 with_option options Keep =
-    if is_none options.lasting then Ok (record { options = record options { lasting = Some Keeping }; waiting = None }) else Err Syntax
+    if is_none options.lasting then Ok
+    (record { options = record options { lasting = Some Keeping }; waiting = None }) else Err Syntax
 with_option options (Expire kind) =
     if is_none options.lasting then Ok (record { options = options; waiting = Some kind }) else Err Syntax
 
@@ -67,7 +70,8 @@ with_word None options word = then_found (ok_or (set_word word) Syntax) (with_op
 -- one word after another
 abbrev pub with_words : Reading → List (List ℕ) → Result Reading Refusal
 with_words reading [] = Ok reading
-with_words reading (word ∷ words) = then_found (with_word reading.waiting reading.options word) (λ more. with_words more words)
+with_words reading (word ∷ words) =
+    then_found (with_word reading.waiting reading.options word) (λ more. with_words more words)
 
 -- no option yet
 abbrev pub no_option : Reading

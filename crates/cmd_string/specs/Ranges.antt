@@ -1,5 +1,6 @@
 -- Parts of strings, and strings that are written over (Redis manual, GETRANGE and SETRANGE).
-use Rattle.std.specs.Prelude.{ℕ, suc, ◌+◌, ◌-◌, nat_lt, Bool, false, if◌then◌else◌, ℤ, pos, negsuc, List, [], ◌++◌, length, take, drop, replicate}
+use Rattle.std.specs.Prelude.{ℕ, suc, ◌+◌, ◌-◌, nat_lt, Bool, false, if◌then◌else◌, ℤ, pos, negsuc, List, [], ◌++◌}
+use Rattle.std.specs.Prelude.{length, take, drop, replicate}
 
 -- a place counted from 0, or from the end where it is negative: what would be before the beginning is the beginning
 abbrev pub place_in : ℕ → ℤ → ℕ

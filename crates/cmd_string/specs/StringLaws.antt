@@ -23,9 +23,11 @@ pub record Gives (store : Store) (key text : List ℕ) (deadline : Option ℕ) :
   pub get : get_row store key ≡ answers (Bulk text)
   pub deadline_is : deadline_at store key ≡ deadline
 
--- SET with these words writes: its options are these, the key is as they ask for it to be, and where GET stands the old string
+-- SET with these words writes: its options are these, the key is as they ask for it to be, and where GET stands the
+-- old string
 -- is this one, or none
-pub record Writes (store : Store) (key : List ℕ) (words : List (List ℕ)) (options : SetOptions) (old : Option (List ℕ)) : Type 0 where
+pub record Writes (store : Store) (key : List ℕ) (words : List (List ℕ)) (options : SetOptions)
+    (old : Option (List ℕ)) : Type 0 where
   pub options_are : set_options words ≡ Ok options
   pub is_asked_for : is_met options.condition (finite.contains_key store key) ≡ true
   pub old_is : old_string store key options.get ≡ Ok old
@@ -45,4 +47,5 @@ expiry_word AtMillis = codes "PXAT"
 abbrev pub last_string : List ℕ → List (List ℕ) → Option (List ℕ)
 last_string key [] = None
 last_string key (other ∷ []) = None
-last_string key (other ∷ value ∷ pairs) = option_or (last_string key pairs) (if bytes_eq other key then Some value else None)
+last_string key (other ∷ value ∷ pairs) =
+    option_or (last_string key pairs) (if bytes_eq other key then Some value else None)

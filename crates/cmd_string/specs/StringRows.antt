@@ -1,5 +1,6 @@
 -- The commands on strings, one row each (Redis manual, strings). Rows that stand one in another refuse in that order.
-use Rattle.std.specs.Prelude.{ℕ, Bool, false, ◌||◌, if◌then◌else◌, ℤ, pos, negsuc, ◌+ℤ◌, ◌-ℤ◌, List, [], ◌∷◌, ◌++◌, length, map, drop, Option, None, Result, Ok, Err, codes}
+use Rattle.std.specs.Prelude.{ℕ, Bool, false, ◌||◌, if◌then◌else◌, ℤ, pos, negsuc, ◌+ℤ◌, ◌-ℤ◌, List, [], ◌∷◌, ◌++◌}
+use Rattle.std.specs.Prelude.{length, map, drop, Option, None, Result, Ok, Err, codes}
 use Rattle.std.specs.Option.{unwrap_or}
 use Rattle.std.specs.Result.{result_unwrap_or}
 use Rattle.std.specs.FinMap as finite
@@ -59,12 +60,14 @@ set_row store now key value words =
 
 -- SETNX key value
 abbrev pub setnx_row : Store → List ℕ → List ℕ → Outcome
-setnx_row store key value = if finite.contains_key store key then answers (Int (pos 0)) else does (Int (pos 1)) (Set key value ∷ [])
+setnx_row store key value = if finite.contains_key store key then answers (Int (pos 0)) else does (Int (pos 1))
+    (Set key value ∷ [])
 
 -- SETEX key seconds value, PSETEX key milliseconds value
 abbrev pub setex_row : CmdId → Expiry → ℕ → List ℕ → List ℕ → List ℕ → Outcome
 setex_row command kind now key time value =
-    with_found (number time) (λ n. with_found (deadline command kind now n) (λ at. does ok (set_until key value now at ∷ [])))
+    with_found (number time) (λ n. with_found (deadline command kind now n)
+    (λ at. does ok (set_until key value now at ∷ [])))
 
 -- GETSET key value
 abbrev pub getset_row : Store → List ℕ → List ℕ → Outcome
@@ -91,7 +94,8 @@ has_any store (key ∷ []) = false
 has_any store (key ∷ value ∷ pairs) = finite.contains_key store key || has_any store pairs
 
 abbrev pub msetnx_row : Store → List (List ℕ) → Outcome
-msetnx_row store words = if has_any store (drop 1 words) then answers (Int (pos 0)) else does (Int (pos 1)) (sets_in words)
+msetnx_row store words = if has_any store (drop 1 words) then answers (Int (pos 0)) else does (Int (pos 1))
+    (sets_in words)
 
 -- a string of a key is at most 16,777,216 bytes long
 abbrev pub sized : List ℕ → Result (List ℕ) Refusal

@@ -2,13 +2,17 @@
 use Rattle.std.specs.Prelude.{ℕ, pos, Bool, true, false, List, drop}
 use Rattle.ks_space.specs.Store.{Store}
 use Rattle.cmd_args.specs.declared.commands.CmdId.{CmdId}
-use Rattle.cmd_args.specs.declared.commands.CmdId.TheVariants.{Get, Set, SetNx, SetEx, PSetEx, GetSet, GetDel, GetEx, MGet, MSet, MSetNx, Append, StrLen, GetRange, SetRange, Incr, Decr, IncrBy, DecrBy}
+use Rattle.cmd_args.specs.declared.commands.CmdId.TheVariants.{Get, Set, SetNx, SetEx, PSetEx, GetSet, GetDel, GetEx}
+use Rattle.cmd_args.specs.declared.commands.CmdId.TheVariants.{MGet, MSet, MSetNx, Append, StrLen, GetRange, SetRange}
+use Rattle.cmd_args.specs.declared.commands.CmdId.TheVariants.{Incr, Decr, IncrBy, DecrBy}
 use Rattle.cmd_args.specs.declared.refusal.Refusal.TheVariants.{Syntax}
 use Rattle.cmd_rows.specs.declared.times.Expiry.TheVariants.{InSeconds, InMillis}
 use Rattle.cmd_rows.specs.Numbers.{number}
 use Rattle.cmd_rows.specs.Outcomes.{Outcome, refused, with_found}
 use Rattle.cmd_string.specs.Found.{with_key, with_key_word, with_key_words}
-use Rattle.cmd_string.specs.StringRows.{get_row, mget_row, strlen_row, getrange_row, set_row, setnx_row, setex_row, getset_row, getdel_row, getex_row, mset_row, msetnx_row, append_row, setrange_row, add_row, subtract_row}
+use Rattle.cmd_string.specs.StringRows.{get_row, mget_row, strlen_row, getrange_row, set_row, setnx_row, setex_row}
+use Rattle.cmd_string.specs.StringRows.{getset_row, getdel_row, getex_row, mset_row, msetnx_row, append_row}
+use Rattle.cmd_string.specs.StringRows.{setrange_row, add_row, subtract_row}
 
 -- the commands on strings
 abbrev pub is_of_strings : CmdId → Bool

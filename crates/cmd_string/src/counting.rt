@@ -22,7 +22,8 @@ pub(crate) fn add(
     increment: i64,
 ) -> Result<Reply, Stop>
     requires { IsShort key.now }
-    ensures { IfAnswered result (λ reply. Did space.old (add_row space.old key.now increment) reply space.new effects.old effects.new 0) }
+    ensures { IfAnswered result (λ reply.
+        Did space.old (add_row space.old key.now increment) reply space.new effects.old effects.new 0) }
 {
     let n = integer_at(space, key)?;
     let sum = n.checked_add(increment).ok_or(Refusal::Overflow)?;
@@ -38,7 +39,8 @@ pub(crate) fn subtract(
     decrement: i64,
 ) -> Result<Reply, Stop>
     requires { IsShort key.now }
-    ensures { IfAnswered result (λ reply. Did space.old (subtract_row space.old key.now decrement) reply space.new effects.old effects.new 0) }
+    ensures { IfAnswered result (λ reply.
+        Did space.old (subtract_row space.old key.now decrement) reply space.new effects.old effects.new 0) }
 {
     let n = integer_at(space, key)?;
     let difference = n.checked_sub(decrement).ok_or(Refusal::Overflow)?;
@@ -64,7 +66,8 @@ fn keep(
     n: i64,
 ) -> Result<Reply, Stop>
     requires { IsShort key.now }
-    ensures { IfAnswered result (λ reply. Did space.old (kept_row key.now n) reply space.new effects.old effects.new 0) }
+    ensures { IfAnswered result (λ reply.
+        Did space.old (kept_row key.now n) reply space.new effects.old effects.new 0) }
 {
     let value = spelled(alloc, n)?;
     let effect = Record::SetKeeping {

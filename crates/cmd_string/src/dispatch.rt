@@ -32,7 +32,9 @@ pub fn run_string(
     effects: &mut Effects,
 ) -> Result<Reply, NoMemory>
     requires { AllByRecursion IsShort words.now }
-    ensures did { IfOk result (λ reply. Did space.old (string_row space.old ctx.now.time row.now.id words.now) reply space.new effects.old effects.new 0) }
+    ensures did { IfOk result (λ reply.
+        Did space.old (string_row space.old ctx.now.time row.now.id words.now) reply space.new effects.old effects.new
+        0) }
     ensures draws { draws.new ≡ draws.old }
 {
     let gave = dispatch(alloc, space, effects, ctx.time, row.id, words);
@@ -48,7 +50,8 @@ fn dispatch(
     words: &Words,
 ) -> Result<Reply, Stop>
     requires { AllByRecursion IsShort words.now }
-    ensures { IfAnswered result (λ reply. Did space.old (string_row space.old now id words.now) reply space.new effects.old effects.new 0) }
+    ensures { IfAnswered result (λ reply.
+        Did space.old (string_row space.old now id words.now) reply space.new effects.old effects.new 0) }
 {
     match id {
         CmdId::Get | CmdId::MGet | CmdId::StrLen | CmdId::GetRange => read(alloc, space, id, words),
@@ -92,7 +95,8 @@ fn set_one(
     words: &Words,
 ) -> Result<Reply, Stop>
     requires { AllByRecursion IsShort words.now }
-    ensures { IfAnswered result (λ reply. Did space.old (setting_row space.old now id words.now) reply space.new effects.old effects.new 0) }
+    ensures { IfAnswered result (λ reply.
+        Did space.old (setting_row space.old now id words.now) reply space.new effects.old effects.new 0) }
 {
     match id {
         CmdId::Set => {
@@ -120,7 +124,9 @@ fn set_expiring(
     words: &Words,
 ) -> Result<Reply, Stop>
     requires { AllByRecursion IsShort words.now }
-    ensures { IfAnswered result (λ reply. Did space.old (with_key_words words.now (setex_row expiring.0 expiring.1 now)) reply space.new effects.old effects.new 0) }
+    ensures { IfAnswered result (λ reply.
+        Did space.old (with_key_words words.now (setex_row expiring.0 expiring.1 now)) reply space.new effects.old
+        effects.new 0) }
 {
     let key = short_word(words, 1)?;
     let time = word(words, 2)?;
@@ -137,7 +143,8 @@ fn change(
     words: &Words,
 ) -> Result<Reply, Stop>
     requires { AllByRecursion IsShort words.now }
-    ensures { IfAnswered result (λ reply. Did space.old (changing_row space.old id words.now) reply space.new effects.old effects.new 0) }
+    ensures { IfAnswered result (λ reply.
+        Did space.old (changing_row space.old id words.now) reply space.new effects.old effects.new 0) }
 {
     match id {
         CmdId::MSet => mset(alloc, space, effects, words),
@@ -168,7 +175,8 @@ fn change(
 // The word at a place, of words of which none is too long.
 fn short_word(words: &Words, place: usize) -> Result<&Bytes, Refusal>
     requires { AllByRecursion IsShort words.now }
-    ensures word { MatchResult result (λ word. word_at words.now place ≡ Ok word.now) (λ why. word_at words.now place ≡ Err why) }
+    ensures word { MatchResult result (λ word. word_at words.now place ≡ Ok word.now)
+        (λ why. word_at words.now place ≡ Err why) }
     ensures short { IfOk result (λ word. IsShort word.now) }
 {
     word(words, place)

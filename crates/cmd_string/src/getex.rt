@@ -50,7 +50,8 @@ pub(crate) fn getex(
     words: &[Bytes],
 ) -> Result<Reply, Stop>
     requires { IsShort key.now }
-    ensures { IfAnswered result (λ reply. Did space.old (getex_row space.old now key.now words.now) reply space.new effects.old effects.new 0) }
+    ensures { IfAnswered result (λ reply.
+        Did space.old (getex_row space.old now key.now words.now) reply space.new effects.old effects.new 0) }
 {
     let change = getex_change(now, words)?;
     let text = string_at(space, key)?;
@@ -81,7 +82,8 @@ fn change_deadline(
 /// GETDEL: the string at the key, or null; the key leaves.
 pub(crate) fn getdel(space: &mut Space, effects: &mut Effects, key: &Bytes) -> Result<Reply, Stop>
     requires { IsShort key.now }
-    ensures { IfAnswered result (λ reply. Did space.old (getdel_row space.old key.now) reply space.new effects.old effects.new 0) }
+    ensures { IfAnswered result (λ reply.
+        Did space.old (getdel_row space.old key.now) reply space.new effects.old effects.new 0) }
 {
     let text = string_at(space, key)?;
     let old = bulk_or_null(text)?;

@@ -1,7 +1,8 @@
 ghost use Rattle.std.specs.Prelude.{◌≡◌, IfOk};
 ghost use Rattle.ks_space.specs.Store.{IsShort, IsDeadline};
 ghost use Rattle.fx_record.specs.RecordWords.{IsRecord};
-ghost use Rattle.cmd_string.specs.Options.{is_word, expiry_named, set_word, with_option, with_word, with_words, no_option, complete, set_options, deadline_read, set_effect};
+ghost use Rattle.cmd_string.specs.Options.{is_word, expiry_named, set_word, with_option, with_word, with_words};
+ghost use Rattle.cmd_string.specs.Options.{no_option, complete, set_options, deadline_read, set_effect};
 
 use cmd_args::{CmdId, Refusal};
 use cmd_rows::{Expiry, deadline, number, set_until};
@@ -125,8 +126,8 @@ impl SetOptions {
     }
 }
 
-/// The options of SET that words are, in any order. Refused for a word that is none, for one that stands twice or beside
-/// one that excludes it, and for one at the end that wants a number.
+/// The options of SET that words are, in any order. Refused for a word that is none, for one that stands twice or
+/// beside one that excludes it, and for one at the end that wants a number.
 pub(crate) fn set_options(words: &[Bytes]) -> Result<SetOptions, Refusal>
     ensures { result ≡ set_options words.now }
 {

@@ -26,7 +26,8 @@ pub(crate) fn set(
 ) -> Result<Reply, Stop>
     requires key { IsShort key.now }
     requires value { IsShort value.now }
-    ensures { IfAnswered result (λ reply. Did space.old (set_row space.old now key.now value.now words.now) reply space.new effects.old effects.new 0) }
+    ensures { IfAnswered result (λ reply.
+        Did space.old (set_row space.old now key.now value.now words.now) reply space.new effects.old effects.new 0) }
 {
     let options = set_options(words)?;
     let effect = set_effect(now, key.clone()?, value.clone()?, options.lasting)?;
@@ -41,7 +42,8 @@ pub(crate) fn set(
 
 // The string at a key where GET stands, and none where it does not. A key of another kind is refused where GET stands.
 fn old_string<'a>(space: &'a Space, key: &Bytes, get: bool) -> Result<Option<&'a Bytes>, Refusal>
-    ensures { MatchResult result (λ text. old_string space.now key.now get ≡ Ok (option_copied text)) (λ why. old_string space.now key.now get ≡ Err why) }
+    ensures { MatchResult result (λ text. old_string space.now key.now get ≡ Ok (option_copied text))
+        (λ why. old_string space.now key.now get ≡ Err why) }
 {
     if get { string_at(space, key) } else { Ok(None) }
 }
@@ -73,7 +75,8 @@ pub(crate) fn setnx(
 ) -> Result<Reply, Stop>
     requires key { IsShort key.now }
     requires value { IsShort value.now }
-    ensures { IfAnswered result (λ reply. Did space.old (setnx_row space.old key.now value.now) reply space.new effects.old effects.new 0) }
+    ensures { IfAnswered result (λ reply.
+        Did space.old (setnx_row space.old key.now value.now) reply space.new effects.old effects.new 0) }
 {
     if is_there(space, key) {
         return Ok(Reply::Int(0));
@@ -99,7 +102,9 @@ pub(crate) fn setex(
 ) -> Result<Reply, Stop>
     requires key { IsShort key.now }
     requires value { IsShort value.now }
-    ensures { IfAnswered result (λ reply. Did space.old (setex_row expiring.0 expiring.1 now key.now time.now value.now) reply space.new effects.old effects.new 0) }
+    ensures { IfAnswered result (λ reply.
+        Did space.old (setex_row expiring.0 expiring.1 now key.now time.now value.now) reply space.new effects.old
+        effects.new 0) }
 {
     let n = number(time)?;
     let at = deadline(expiring.0, expiring.1, now, n)?;
@@ -120,7 +125,8 @@ pub(crate) fn getset(
 ) -> Result<Reply, Stop>
     requires key { IsShort key.now }
     requires value { IsShort value.now }
-    ensures { IfAnswered result (λ reply. Did space.old (getset_row space.old key.now value.now) reply space.new effects.old effects.new 0) }
+    ensures { IfAnswered result (λ reply.
+        Did space.old (getset_row space.old key.now value.now) reply space.new effects.old effects.new 0) }
 {
     let text = string_at(space, key)?;
     let old = bulk_or_null(text)?;

@@ -18,8 +18,8 @@ use std::test::Fail;
 // The time of each command.
 const NOW: u64 = 1000;
 
-// Commands between semicolons, their words between spaces, what the last one answers, and the records that it gives. The
-// key `list` holds a list before the first.
+// Commands between semicolons, their words between spaces, what the last one answers, and the records that it gives.
+// The key `list` holds a list before the first.
 type Case = (&'static [u8], &'static [u8], &'static [u8]);
 
 static CASES: [Case; 51] = [

@@ -2,7 +2,8 @@ ghost use Rattle.std.specs.Prelude.{◌≡◌, [], drop, unwrap_or, option_copie
 ghost use Rattle.std.specs.List.{AllByRecursion};
 ghost use Rattle.ks_space.specs.Store.{IsShort};
 ghost use Rattle.cmd_rows.specs.Deeds.{IfAnswered, Did};
-ghost use Rattle.cmd_string.specs.StringRows.{has_any, mset_row, msetnx_row, grown_row, append_row, range_row, setrange_row};
+ghost use Rattle.cmd_string.specs.StringRows.{has_any, mset_row, msetnx_row, grown_row, append_row, range_row};
+ghost use Rattle.cmd_string.specs.StringRows.{setrange_row};
 
 use crate::ranges::written_over;
 use crate::setting::is_there;
@@ -22,7 +23,8 @@ pub(crate) fn mset(
     words: &Words,
 ) -> Result<Reply, Stop>
     requires { AllByRecursion IsShort words.now }
-    ensures { IfAnswered result (λ reply. Did space.old (mset_row words.now) reply space.new effects.old effects.new 0) }
+    ensures { IfAnswered result (λ reply.
+        Did space.old (mset_row words.now) reply space.new effects.old effects.new 0) }
 {
     set_all(alloc, space, effects, words)?;
     Ok(ok(alloc)?)
@@ -36,7 +38,8 @@ pub(crate) fn msetnx(
     words: &Words,
 ) -> Result<Reply, Stop>
     requires { AllByRecursion IsShort words.now }
-    ensures { IfAnswered result (λ reply. Did space.old (msetnx_row space.old words.now) reply space.new effects.old effects.new 0) }
+    ensures { IfAnswered result (λ reply.
+        Did space.old (msetnx_row space.old words.now) reply space.new effects.old effects.new 0) }
 {
     if has_any(space, words.as_slice()) {
         return Ok(Reply::Int(0));
@@ -70,7 +73,8 @@ pub(crate) fn append(
 ) -> Result<Reply, Stop>
     requires key { IsShort key.now }
     requires value { IsShort value.now }
-    ensures { IfAnswered result (λ reply. Did space.old (append_row space.old key.now value.now) reply space.new effects.old effects.new 0) }
+    ensures { IfAnswered result (λ reply.
+        Did space.old (append_row space.old key.now value.now) reply space.new effects.old effects.new 0) }
 {
     let old = string_at(space, key)?;
     let mut new = text_or_empty(alloc, old)?;
@@ -90,7 +94,8 @@ fn text_or_empty(alloc: Global, text: Option<&Bytes>) -> Result<Bytes, NoMemory>
 // A string in place of the one at the key, which keeps its deadline.
 fn grow(space: &mut Space, effects: &mut Effects, key: &Bytes, new: Bytes) -> Result<Reply, Stop>
     requires { IsShort key.now }
-    ensures { IfAnswered result (λ reply. Did space.old (grown_row key.now new) reply space.new effects.old effects.new 0) }
+    ensures { IfAnswered result (λ reply.
+        Did space.old (grown_row key.now new) reply space.new effects.old effects.new 0) }
 {
     let count = new.len();
     if count > MAX_TEXT_BYTES {
@@ -115,7 +120,8 @@ pub(crate) fn setrange(
 ) -> Result<Reply, Stop>
     requires key { IsShort key.now }
     requires value { IsShort value.now }
-    ensures { IfAnswered result (λ reply. Did space.old (setrange_row space.old key.now offset.now value.now) reply space.new effects.old effects.new 0) }
+    ensures { IfAnswered result (λ reply.
+        Did space.old (setrange_row space.old key.now offset.now value.now) reply space.new effects.old effects.new 0) }
 {
     let at = number(offset)?;
     let old = string_at(space, key)?;
@@ -135,7 +141,8 @@ fn write_over(
     requires key { IsShort key.now }
     requires value { IsShort value.now }
     requires old { IsShort old }
-    ensures { IfAnswered result (λ reply. Did space.old (range_row key.now old at value.now) reply space.new effects.old effects.new 0) }
+    ensures { IfAnswered result (λ reply.
+        Did space.old (range_row key.now old at value.now) reply space.new effects.old effects.new 0) }
 {
     if at < 0 {
         return Err(Stop::Refused(Refusal::Offset));

@@ -8,18 +8,19 @@ use Rattle.std.proofs.lemmas.List.{append_cancel_left}
 use Rattle.rs_base.proofs.Lists.{Fronts, Longer, Shorter, two-fronts, nil-front, long-front, each-front, each-back}
 use Rattle.fx_record.specs.declared.record.Record.{Record}
 use Rattle.fx_record.specs.RecordWords.{words_of, IsRecord}
-use Rattle.resp_read.specs.Frames.{Form, Given, EmptyArray, NegativeArray, IsSequence, sequence_text, frame, Begins, LongestSequence}
+use Rattle.resp_read.specs.Frames.{Form, Given, EmptyArray, NegativeArray, IsSequence, sequence_text, frame, Begins}
+use Rattle.resp_read.specs.Frames.{LongestSequence}
 use Rattle.resp_read.specs.Frames.{commands_in, commands_from}
 use Rattle.resp_read.specs.Reading.{Reading, Unfinished, Broken, reading, behind_forms, IsReadingOf}
 use Rattle.fx_log.specs.declared.group.Group.{Group}
 use Rattle.fx_log.specs.Groups.{group_text, log_text, IsGroup}
 use Rattle.fx_log.specs.Items.{multi, exec, Item, Bare, Wrapped, IsItem, IsOpen, item_words, items_words, open_words}
 use Rattle.fx_log.specs.Logs.{IsLog, IsGroups, IsPart, IsCut, HasBadPlace}
-use Rattle.fx_log.proofs.LogLaws.{empty-row}
+use Rattle.fx_log.proofs.LogLaws.{empty-sequence}
 use Rattle.fx_log.proofs.Staying.{ReadsText, GoesOnText}
-use Rattle.fx_log.proofs.Texts.{OneRow, NotBoth, log-groups, log-good}
+use Rattle.fx_log.proofs.Texts.{OneSequence, NotBoth, log-groups, log-good}
 use Rattle.fx_log.proofs.Written.{WordsGiven, item_of, items_of, group-written, written, given, given-text}
-use Rattle.fx_log.proofs.Written.{given-commands, written-is-row, row-longest, row-begins, written-log}
+use Rattle.fx_log.proofs.Written.{given-commands, written-is-sequence, sequence-longest, sequence-begins, written-log}
 
 -- where a text is cut
 pub record CutAt (text more : List ℕ) (groups : List Group) : Type 0 where
@@ -75,16 +76,16 @@ cut-at (group ∷ groups) text more e = by_size (λ t rest. cut-at groups t more
     }
     by_size again (inr (inr above)) = behind again (omega arith)
 
--- a row reads as its forms
-pub row-reading : OneRow → NotBoth → ReadsText → (text : List ℕ) (forms : List Form) → IsSequence text forms
+-- a sequence reads as its forms
+pub sequence-reading : OneSequence → NotBoth → ReadsText → (text : List ℕ) (forms : List Form) → IsSequence text forms
     → reading text ≡ Unfinished forms []
-row-reading one_sequence not_both reads text forms row = by_reading (reading text) refl (reads text)
+sequence-reading one_sequence not_both reads text forms seq = by_reading (reading text) refl (reads text)
   where
     by_reading : (r : Reading) → reading text ≡ r → IsReadingOf text r → reading text ≡ Unfinished forms []
     by_reading (Unfinished others left) e is =
-        let same = one_sequence text others forms left [] is.0 (row-longest text forms row) in
+        let same = one_sequence text others forms left [] is.0 (sequence-longest text forms seq) in
         e ∙ ap (λ fs. Unfinished fs left) same.0 ∙ ap (Unfinished forms) same.1
-    by_reading (Broken others place kind) e is = absurd (not_both text place (row-begins text forms row) is.0.at)
+    by_reading (Broken others place kind) e is = absurd (not_both text place (sequence-begins text forms seq) is.0.at)
 
 commands-append : (xs ys : List Form) → commands_in (xs ++ ys) ≡ commands_in xs ++ commands_in ys
 commands-append [] ys = refl
@@ -136,23 +137,25 @@ unfinished : NotBoth → ReadsText → (text : List ℕ) → Begins text
 unfinished not_both reads text begins = by_reading (reading text) refl (reads text)
   where
     by_reading : (r : Reading) → reading text ≡ r → IsReadingOf text r
-        → (forms : List Form) × (left : List ℕ) × (reading text ≡ Unfinished forms left) × LongestSequence text forms left
+        → (forms : List Form) × (left : List ℕ) × (reading text ≡ Unfinished forms left)
+        × LongestSequence text forms left
     by_reading (Unfinished forms left) e is = (forms, left, e, is.0)
     by_reading (Broken forms place kind) e is = absurd (not_both text place begins is.0.at)
 
--- the forms read of a front are the first of those of the whole row
+-- the forms read of a front are the first of those of the whole sequence
 forms-front : (forms all : List Form) (r : Reading) → behind_forms forms r ≡ Unfinished all []
     → (more : List Form) × (forms ++ more ≡ all)
 forms-front forms all (Unfinished more left) e = (more, (cc))
 forms-front forms all (Broken more place kind) e = absurd (cc)
 
-pub part-read : OneRow → NotBoth → ReadsText → GoesOnText → (back : List Group) (part more : List ℕ)
+pub part-read : OneSequence → NotBoth → ReadsText → GoesOnText → (back : List Group) (part more : List ℕ)
     → AllByRecursion IsGroup back → part ++ more ≡ log_text back → IsPart part back → PartRead part
 part-read one_sequence not_both reads goes_on [] part more each e is =
-    let begins = row-begins [] [] (record { each = tt; text_is = refl }) in
+    let begins = sequence-begins [] [] (record { each = tt; text_is = refl }) in
     let read = unfinished not_both reads part (subst Begins (sym is) begins) in
     let same =
-    one_sequence [] read.0 [] read.1 [] (subst (λ (t : List ℕ). LongestSequence t read.0 read.1) is read.3) empty-row in
+    one_sequence [] read.0 [] read.1 []
+    (subst (λ (t : List ℕ). LongestSequence t read.0 read.1) is read.3) empty-sequence in
     record {
       forms = read.0;
       left = read.1;
@@ -164,12 +167,12 @@ part-read one_sequence not_both reads goes_on [] part more each e is =
 part-read one_sequence not_both reads goes_on (group ∷ groups) part more each e is =
     let all = written (group ∷ groups) each in
     let words = items_words (items_of (group ∷ groups)) in
-    let row = written-is-row (group ∷ groups) all in
-    let begins : Begins part = (more, given words, record { each = row.each; text_is = e ∙ row.text_is }) in
+    let seq = written-is-sequence (group ∷ groups) all in
+    let begins : Begins part = (more, given words, record { each = seq.each; text_is = e ∙ seq.text_is }) in
     let read = unfinished not_both reads part begins in
     let joined : behind_forms read.0 (reading (read.1 ++ more)) ≡ Unfinished (given words) [] =
     sym (goes_on part more read.0 read.1 read.2) ∙ ap reading e
-    ∙ row-reading one_sequence not_both reads (log_text (group ∷ groups)) (given words) row in
+    ∙ sequence-reading one_sequence not_both reads (log_text (group ∷ groups)) (given words) seq in
     let front = forms-front read.0 (given words) (reading (read.1 ++ more)) joined in
     let xs = commands_in read.0 in
     let forms_are = given-front read.0 front.0 words front.1 in
@@ -212,20 +215,20 @@ part-read one_sequence not_both reads goes_on (group ∷ groups) part more each 
           within = opened.2;
         }
 
-cut-log : OneRow → NotBoth → ReadsText → GoesOnText → WordsGiven
+cut-log : OneSequence → NotBoth → ReadsText → GoesOnText → WordsGiven
     → (front : List Group) (part more : List ℕ) (groups : List Group) → AllByRecursion IsGroup front
     → AllByRecursion IsGroup groups → (log_text front ++ part) ++ more ≡ log_text groups → (read : PartRead part)
     → IsLog (log_text front ++ part) (items_of front) read.opened
 cut-log one_sequence not_both reads goes_on words_given front part more groups each_front each e read =
-    let all = written-is-row groups (written groups each) in
+    let all = written-is-sequence groups (written groups each) in
     let text = log_text front ++ part in
     let begins : Begins text =
     (more, given (items_words (items_of groups)), record { each = all.each; text_is = e ∙ all.text_is }) in
     let words = items_words (items_of front) in
-    let row = written-is-row front (written front each_front) in
+    let seq = written-is-sequence front (written front each_front) in
     let reading_is : reading text ≡ Unfinished (given words ++ read.forms) read.left =
     goes_on (log_text front) part (given words) []
-    (row-reading one_sequence not_both reads (log_text front) (given words) row)
+    (sequence-reading one_sequence not_both reads (log_text front) (given words) seq)
     ∙ ap (behind_forms (given words)) read.reading_is in
     let is = subst (IsReadingOf text) reading_is (reads text) in
     record {
@@ -238,7 +241,7 @@ cut-log one_sequence not_both reads goes_on words_given front part more groups e
           ∙ ap (λ ws. words ++ ws) read.words_are;
     }
 
-pub cut-reads : OneRow → NotBoth → ReadsText → GoesOnText → WordsGiven → (groups : List Group) (text more : List ℕ)
+pub cut-reads : OneSequence → NotBoth → ReadsText → GoesOnText → WordsGiven → (groups : List Group) (text more : List ℕ)
     → AllByRecursion IsGroup groups → text ++ more ≡ log_text groups
     → IsCut text groups
 cut-reads one_sequence not_both reads goes_on words_given groups text more each e =
@@ -262,7 +265,7 @@ cut-reads one_sequence not_both reads goes_on words_given groups text more each 
       good = log-good one_sequence not_both text (items_of cut.front) read.opened log_text_is;
     }
 
-pub whole-reads : OneRow → NotBoth → WordsGiven → (groups : List Group) → AllByRecursion IsGroup groups
+pub whole-reads : OneSequence → NotBoth → WordsGiven → (groups : List Group) → AllByRecursion IsGroup groups
     → IsGroups (log_text groups) groups × (HasBadPlace (log_text groups) → ⊥)
 whole-reads one_sequence not_both words_given groups each =
     let log = written-log words_given groups each in (

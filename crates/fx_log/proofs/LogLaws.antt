@@ -10,8 +10,8 @@ use Rattle.fx_log.proofs.Runs.{stood-start, read-stood}
 use Rattle.fx_log.proofs.Texts.{log-broke, log-framed}
 use Rattle.fx_log.proofs.Staying.{ReadsText}
 
-abbrev pub empty-row : LongestSequence [] [] []
-empty-row = record { each = tt; text_is = refl; longest = λ others left each e. omega arith }
+abbrev pub empty-sequence : LongestSequence [] [] []
+empty-sequence = record { each = tt; text_is = refl; longest = λ others left each e. omega arith }
 
 abbrev pub empty-begins : Begins []
 empty-begins = ([], [], record { each = tt; text_is = refl })
@@ -19,7 +19,7 @@ empty-begins = ([], [], record { each = tt; text_is = refl })
 abbrev pub empty-log : IsLog [] [] None
 empty-log = record {
   commands = [];
-  whole = record { forms = []; rest = []; sequence = empty-row; commands_are = refl };
+  whole = record { forms = []; rest = []; sequence = empty-sequence; commands_are = refl };
   begins = empty-begins;
   within = (tt, tt);
   words_are = refl;

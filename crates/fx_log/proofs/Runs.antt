@@ -1,4 +1,4 @@
--- Commands read one by one are a row of items and the part of one.
+-- Commands read one by one are a sequence of items and the part of one.
 use Rattle.std.proofs.Common.{◌≡◌, ℕ, true, false, cond, is_some, Option, Some, None, List, [], ◌∷◌, ◌++◌, map, refl}
 use Rattle.std.proofs.Common.{sym, ap, subst, ◌∙◌, append_assoc, append-nil}
 use Rattle.std.specs.List.{AllByRecursion}
@@ -34,8 +34,8 @@ stood-start = record { items = []; within = (tt, tt); words_are = refl; groups_a
 begin-at : (items : List Item) → (items_words items ++ []) ++ multi ∷ [] ≡ items_words items ++ open_words (Some [])
 begin-at items = ap (λ ws. ws ++ multi ∷ []) (append-nil (items_words items))
 
-row-more : (items : List Item) (item : Item) → items_words (items ++ item ∷ []) ≡ items_words items ++ item_words item
-row-more items item = flat_map-append item_words items (item ∷ [])
+items-more : (items : List Item) (item : Item) → items_words (items ++ item ∷ []) ≡ items_words items ++ item_words item
+items-more items item = flat_map-append item_words items (item ∷ [])
     ∙ ap (λ ws. items_words items ++ ws) (append-nil (item_words item))
 
 groups-more : (items : List Item) (item : Item) → groups_of (items ++ item ∷ []) ≡ groups_of items ++ item_groups item
@@ -45,13 +45,13 @@ groups-more items item = flat_map-append item_groups items (item ∷ [])
 bare-at : (items : List Item) (r : Record) → (items_words items ++ []) ++ words_of r ∷ []
     ≡ items_words (items ++ Bare r ∷ []) ++ []
 bare-at items r =
-    ap (λ ws. ws ++ words_of r ∷ []) (append-nil (items_words items)) ∙ sym (row-more items (Bare r))
+    ap (λ ws. ws ++ words_of r ∷ []) (append-nil (items_words items)) ∙ sym (items-more items (Bare r))
     ∙ sym (append-nil (items_words (items ++ Bare r ∷ [])))
 
 end-at : (items : List Item) (records : List Record)
     → (items_words items ++ open_words (Some records)) ++ exec ∷ [] ≡ items_words (items ++ Wrapped records ∷ []) ++ []
 end-at items records =
-    append_assoc (items_words items) (open_words (Some records)) (exec ∷ []) ∙ sym (row-more items (Wrapped records))
+    append_assoc (items_words items) (open_words (Some records)) (exec ∷ []) ∙ sym (items-more items (Wrapped records))
     ∙ sym (append-nil (items_words (items ++ Wrapped records ∷ [])))
 
 more-at : (items : List Item) (records : List Record) (r : Record)
@@ -214,14 +214,14 @@ item-reads (Wrapped records) groups within =
 plain-append : (xs ys : List (List (List ℕ))) → plain (xs ++ ys) ≡ plain xs ++ plain ys
 plain-append xs ys = map-append (λ (w : List (List ℕ)). record { words = w; place = 0 }) xs ys
 
-pub row-reads : (items : List Item) (groups : List Group) → AreItems items
+pub items-read : (items : List Item) (groups : List Group) → AreItems items
     → read_from groups None (plain (items_words items)) ≡ Reads (groups ++ groups_of items) None
-row-reads [] groups within = ap (λ gs. Reads gs None) (sym (append-nil groups))
-row-reads (item ∷ items) groups within =
+items-read [] groups within = ap (λ gs. Reads gs None) (sym (append-nil groups))
+items-read (item ∷ items) groups within =
     ap (read_from groups None) (plain-append (item_words item) (items_words items))
     ∙ read-append groups None (plain (item_words item)) (plain (items_words items))
     ∙ ap (λ r. and_then r (plain (items_words items))) (item-reads item groups within.0)
-    ∙ row-reads items (groups ++ item_groups item) within.1
+    ∙ items-read items (groups ++ item_groups item) within.1
     ∙ ap (λ gs. Reads gs None) (append_assoc groups (item_groups item) (groups_of items))
 
 open-reads : (opened : Option (List Record)) (groups : List Group) → IsOpen opened
@@ -239,7 +239,7 @@ stood-reads words groups opened stood =
     ap (λ ws. read_from [] None (plain ws)) stood.words_are
     ∙ ap (read_from [] None) (plain-append (items_words stood.items) (open_words opened))
     ∙ read-append [] None (plain (items_words stood.items)) (plain (open_words opened))
-    ∙ ap (λ r. and_then r (plain (open_words opened))) (row-reads stood.items [] stood.within.0)
+    ∙ ap (λ r. and_then r (plain (open_words opened))) (items-read stood.items [] stood.within.0)
     ∙ open-reads opened (groups_of stood.items) stood.within.1
     ∙ ap (λ gs. Reads gs opened) (sym stood.groups_are)
 
@@ -248,7 +248,7 @@ pub stood-bad : (words : List (List (List ℕ))) (w : List (List ℕ)) (groups :
     → Stood words groups opened
     → fits (is_some opened) (command_of w) ≡ false → BeginsItems (words ++ w ∷ []) → ⊥
 stood-bad words w groups opened stood no_fit (more, items, within, e) =
-    let whole = row-reads items [] within in
+    let whole = items-read items [] within in
     let broke = Breaks groups 0 (kind_of (command_of w)) in
     let at_word : read_from groups opened (plain (w ∷ [])) ≡ broke =
     ap (λ t. cond t (Reads (groups ++ groups_at opened (command_of w)) (open_after opened (command_of w))) broke) no_fit

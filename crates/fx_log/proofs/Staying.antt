@@ -14,7 +14,7 @@ use Rattle.fx_log.specs.declared.stops.LogKind.{LogKind}
 use Rattle.fx_log.specs.Items.{groups_of}
 use Rattle.fx_log.specs.Logs.{Splits, IsGroups, IsBadAt, IsBadLog, HasBadPlace}
 use Rattle.fx_log.specs.LogReader.{AddsGroups}
-use Rattle.fx_log.proofs.Texts.{OneRow, one-whole, one-groups, groups-before}
+use Rattle.fx_log.proofs.Texts.{OneSequence, one-whole, one-groups, groups-before}
 
 -- what the grammar of frames says of every text
 abbrev pub ReadsText : Type 0
@@ -39,7 +39,7 @@ short-or-past n m (inl same) = inl (omega arith)
 short-or-past n m (inr (inl below)) = inl (omega arith)
 short-or-past n m (inr (inr above)) = inr (omega arith)
 
--- the front of a row begins a row
+-- the front of a sequence begins a sequence
 front-begins : (at : ℕ) (text : List ℕ) (others : List Form) (left : List ℕ) → at ≤ length (sequence_text others)
     → AllByRecursion IsForm others → text ≡ sequence_text others ++ left → Begins (take at text)
 front-begins at text others left within each text_is =
@@ -53,20 +53,21 @@ front-begins at text others left within each text_is =
       },
     )
 
--- the forms before a bad byte are the longest row of the text
-bad-row : (text : List ℕ) (at : ℕ) (kind : BadFrame) (bad : IsBad text at kind)
+-- the forms before a bad byte are the longest sequence of the text
+bad-sequence : (text : List ℕ) (at : ℕ) (kind : BadFrame) (bad : IsBad text at kind)
     → LongestSequence text bad.forms (bad.rest ++ drop at text)
-bad-row text at kind bad =
+bad-sequence text at kind bad =
     let within = bad.at.within in
-    let row = bad.sequence in
+    let seq = bad.sequence in
     record {
-      each = row.each;
-      text_is = sym (take-append-drop at text) ∙ ap (λ t. t ++ drop at text) row.text_is
+      each = seq.each;
+      text_is = sym (take-append-drop at text) ∙ ap (λ t. t ++ drop at text) seq.text_is
           ∙ append_assoc (sequence_text bad.forms) bad.rest (drop at text);
       longest = longest;
     }
   where
-    by_length : (others : List Form) (left : List ℕ) → AllByRecursion IsForm others → text ≡ sequence_text others ++ left
+    by_length : (others : List Form) (left : List ℕ) → AllByRecursion IsForm others
+        → text ≡ sequence_text others ++ left
         → (length (sequence_text others) ≤ at) ⊎ (at + 1 ≤ length (sequence_text others))
         → length (bad.rest ++ drop at text) ≤ length left
     by_length others left each text_is (inr past) =
@@ -121,12 +122,13 @@ bad-whole : (text : List ℕ) (at : ℕ) (kind : BadFrame) (bad : IsBad text at 
 bad-whole text at kind bad = record {
   forms = bad.forms;
   rest = bad.rest ++ drop at text;
-  sequence = bad-row text at kind bad;
+  sequence = bad-sequence text at kind bad;
   commands_are = refl;
 }
 
 -- the commands of a text with a bad byte are those of the text with more behind it
-pub whole-bad : OneRow → (text piece : List ℕ) (at : ℕ) (kind : BadFrame) (commands : List Command) → IsBad text at kind
+pub whole-bad : OneSequence → (text piece : List ℕ) (at : ℕ) (kind : BadFrame) (commands : List Command)
+    → IsBad text at kind
     → IsWhole text commands → IsWhole (text ++ piece) commands
 unfolding bad-more
 whole-bad one_sequence text piece at kind commands bad whole =
@@ -136,18 +138,18 @@ whole-bad one_sequence text piece at kind commands bad whole =
     (bad-whole (text ++ piece) at kind then)
 
 -- the commands of a text are the first of those of the text with more behind it
-pub whole-more : OneRow → ReadsText → GoesOnText → (text piece : List ℕ) (commands : List Command)
+pub whole-more : OneSequence → ReadsText → GoesOnText → (text piece : List ℕ) (commands : List Command)
     → IsWhole text commands
     → (rest : List Command) × IsWhole (text ++ piece) (commands ++ rest)
 whole-more one_sequence reads goes_on text piece commands whole = by_reading (reading text) refl (reads text)
   where
-    row-more : (forms more : List Form) (left after : List ℕ) → LongestSequence text forms left
+    items-more : (forms more : List Form) (left after : List ℕ) → LongestSequence text forms left
         → LongestSequence (text ++ piece) (forms ++ more) after
         → (rest : List Command) × IsWhole (text ++ piece) (commands ++ rest)
-    row-more forms more left after row then =
+    items-more forms more left after seq then =
         let rest = commands-more 0 forms more in
         let same : commands_from 0 forms ≡ commands =
-        ap (commands_from 0) (one_sequence text forms whole.forms left whole.rest row whole.sequence).0
+        ap (commands_from 0) (one_sequence text forms whole.forms left whole.rest seq whole.sequence).0
         ∙ sym whole.commands_are in (
           rest.0,
           record {
@@ -161,12 +163,12 @@ whole-more one_sequence reads goes_on text piece commands whole = by_reading (re
     by_more : (forms : List Form) (left : List ℕ) → LongestSequence text forms left → (r : Reading)
         → reading (text ++ piece) ≡ behind_forms forms r
         → (rest : List Command) × IsWhole (text ++ piece) (commands ++ rest)
-    by_more forms left row (Unfinished more after) e =
+    by_more forms left seq (Unfinished more after) e =
         let then = subst (IsReadingOf (text ++ piece)) e (reads (text ++ piece)) in
-        row-more forms more left after row then.0
-    by_more forms left row (Broken more place kind) e =
+        items-more forms more left after seq then.0
+    by_more forms left seq (Broken more place kind) e =
         let then = subst (IsReadingOf (text ++ piece)) e (reads (text ++ piece)) in
-        row-more forms more left then.1.0 row then.1.1
+        items-more forms more left then.1.0 seq then.1.1
 
     by_reading : (r : Reading) → reading text ≡ r → IsReadingOf text r
         → (rest : List Command) × IsWhole (text ++ piece) (commands ++ rest)
@@ -178,7 +180,7 @@ whole-more one_sequence reads goes_on text piece commands whole = by_reading (re
           (whole-bad one_sequence text piece place kind commands is.0 whole),
     )
 
-pub bad-stays : OneRow → ReadsText → GoesOnText → (text piece : List ℕ) (place : ℕ) (kind : LogKind)
+pub bad-stays : OneSequence → ReadsText → GoesOnText → (text piece : List ℕ) (place : ℕ) (kind : LogKind)
     (bad : IsBadLog text place kind)
     → IsBadLog (text ++ piece) place kind × IsGroups (text ++ piece) (groups_of bad.items)
 bad-stays one_sequence reads goes_on text piece place kind bad = by_rest bad.rest bad.splits bad.bad
@@ -218,14 +220,15 @@ bad-stays one_sequence reads goes_on text piece place kind bad = by_rest bad.res
         (stays, groups-before (text ++ piece) place kind stays (groups_of bad.items) refl)
 
 -- the groups of a text with a bad place are those of the text with more behind it
-pub bad-adds : OneRow → ReadsText → GoesOnText → (text piece : List ℕ) → HasBadPlace text → AddsGroups text piece []
+pub bad-adds : OneSequence → ReadsText → GoesOnText → (text piece : List ℕ) → HasBadPlace text
+    → AddsGroups text piece []
 bad-adds one_sequence reads goes_on text piece (place, kind, bad) before is =
     let had = groups-before text place kind bad (groups_of bad.items) refl in
     subst (IsGroups (text ++ piece)) (one-groups one_sequence text (groups_of bad.items) before had is
     ∙ sym (append-nil before))
     (bad-stays one_sequence reads goes_on text piece place kind bad).1
 
-pub bad-place-stays : OneRow → ReadsText → GoesOnText → (text piece : List ℕ) → HasBadPlace text
+pub bad-place-stays : OneSequence → ReadsText → GoesOnText → (text piece : List ℕ) → HasBadPlace text
     → HasBadPlace (text ++ piece)
 bad-place-stays one_sequence reads goes_on text piece (place, kind, bad) =
     (place, kind, (bad-stays one_sequence reads goes_on text piece place kind bad).0)

@@ -21,8 +21,8 @@ use Rattle.fx_log.proofs.Runs.{Stood, behind, read-behind, split_read, splits-re
 use Rattle.fx_log.proofs.Runs.{stood-bad, read-broke}
 
 -- what the grammar of frames says of every text
-abbrev pub OneRow : Type 0
-OneRow = (text : List ℕ) (forms others : List Form) (left rest : List ℕ) → LongestSequence text forms left
+abbrev pub OneSequence : Type 0
+OneSequence = (text : List ℕ) (forms others : List Form) (left rest : List ℕ) → LongestSequence text forms left
     → LongestSequence text others rest → (forms ≡ others) × (left ≡ rest)
 
 abbrev pub OneBad : Type 0
@@ -32,7 +32,7 @@ OneBad = (text : List ℕ) (place at : ℕ) (kind what : BadFrame) → IsBad tex
 abbrev pub NotBoth : Type 0
 NotBoth = (text : List ℕ) (place : ℕ) → Begins text → IsBadPlace text place → ⊥
 
-pub one-whole : OneRow → (text : List ℕ) (xs ys : List Command) → IsWhole text xs → IsWhole text ys → xs ≡ ys
+pub one-whole : OneSequence → (text : List ℕ) (xs ys : List Command) → IsWhole text xs → IsWhole text ys → xs ≡ ys
 one-whole one_sequence text xs ys x y =
     let same = one_sequence text x.forms y.forms x.rest y.rest x.sequence y.sequence in
     x.commands_are ∙ ap (commands_from 0) same.0 ∙ sym y.commands_are
@@ -52,12 +52,12 @@ groups-read text groups is =
     ap groups_in (splits-read is.commands is.front is.rest is.items is.opened is.splits)
     ∙ groups-split is.items is.opened is.rest ∙ sym is.groups_are
 
-pub one-groups : OneRow → (text : List ℕ) (xs ys : List Group) → IsGroups text xs → IsGroups text ys → xs ≡ ys
+pub one-groups : OneSequence → (text : List ℕ) (xs ys : List Group) → IsGroups text xs → IsGroups text ys → xs ≡ ys
 one-groups one_sequence text xs ys x y =
     sym (groups-read text xs x) ∙ ap (λ cs. groups_in (read_from [] None cs))
     (one-whole one_sequence text x.commands y.commands x.whole y.whole) ∙ groups-read text ys y
 
-pub one-bad : OneRow → OneBad → (text : List ℕ) (place at : ℕ) (kind what : LogKind) → IsBadLog text place kind
+pub one-bad : OneSequence → OneBad → (text : List ℕ) (place at : ℕ) (kind what : LogKind) → IsBadLog text place kind
     → IsBadLog text at what → (place ≡ at) × (kind ≡ what)
 one-bad one_sequence one_frame text place at kind what x y =
     by_rest x.rest y.rest
@@ -124,7 +124,7 @@ groups-before text place kind bad groups groups_are = record {
 }
 
 -- a log so far has no bad place
-pub log-good : OneRow → NotBoth → (text : List ℕ) (items : List Item) (opened : Option (List Record))
+pub log-good : OneSequence → NotBoth → (text : List ℕ) (items : List Item) (opened : Option (List Record))
     → IsLog text items opened → HasBadPlace text → ⊥
 log-good one_sequence not_both text items opened log (place, kind, bad) =
     by_rest bad.rest
@@ -226,7 +226,7 @@ log-framed text piece items opened log commands given left place at bad whole e 
     (found, groups-before (text ++ piece) place Frame found (groups_of items ++ given) stood.groups_are)
 
 -- the groups that a piece adds
-pub log-adds : OneRow → (text piece : List ℕ) (items : List Item) (opened : Option (List Record))
+pub log-adds : OneSequence → (text piece : List ℕ) (items : List Item) (opened : Option (List Record))
     → IsLog text items opened → (given : List Group)
     → IsGroups (text ++ piece) (groups_of items ++ given) → AddsGroups text piece given
 log-adds one_sequence text piece items opened log given all before is =

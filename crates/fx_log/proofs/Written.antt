@@ -1,4 +1,4 @@
--- What is written of groups is a row of frames, whose commands are a row of items.
+-- What is written of groups is a sequence of frames, whose commands are a sequence of items.
 use Rattle.std.proofs.Common.{◌≡◌, ℕ, Bool, true, false, None, List, [], ◌∷◌, ◌++◌, map, refl, sym, ap, ◌∙◌, arith}
 use Rattle.std.proofs.Common.{append_assoc, append-nil}
 use Rattle.std.specs.List.{AllByRecursion, flat_map}
@@ -7,7 +7,8 @@ use Rattle.rs_base.proofs.Lists.{each-append}
 use Rattle.fx_record.specs.declared.record.Record.{Record}
 use Rattle.fx_record.specs.RecordWords.{words_of, IsRecord}
 use Rattle.resp_read.specs.declared.command.Command.{Command}
-use Rattle.resp_read.specs.Frames.{Form, Given, IsForm, IsCommand, sequence_text, frame, Begins, LongestSequence, IsSequence}
+use Rattle.resp_read.specs.Frames.{Form, Given, IsForm, IsCommand, sequence_text, frame, Begins, LongestSequence}
+use Rattle.resp_read.specs.Frames.{IsSequence}
 use Rattle.resp_read.specs.Frames.{commands_in, commands_from}
 use Rattle.fx_log.specs.declared.group.Group.{Group}
 use Rattle.fx_log.specs.Groups.{record_text, records_text, wrapped_text, group_text, log_text, IsGroup}
@@ -111,33 +112,38 @@ pub given-commands : (words : List (List (List ℕ))) → commands_in (given wor
 given-commands [] = refl
 given-commands (w ∷ words) = ap (λ ws. w ∷ ws) (given-commands words)
 
-pub written-is-row : (groups : List Group) → Written groups
+pub written-is-sequence : (groups : List Group) → Written groups
     → IsSequence (log_text groups) (given (items_words (items_of groups)))
-written-is-row groups is = record {
+written-is-sequence groups is = record {
   each = given-each (items_words (items_of groups)) is.each;
   text_is = is.text_is ∙ sym (given-text (items_words (items_of groups)));
 }
 
-pub row-longest : (text : List ℕ) (forms : List Form) → IsSequence text forms → LongestSequence text forms []
-row-longest text forms row = record {
-  each = row.each;
-  text_is = row.text_is ∙ sym (append-nil (sequence_text forms));
+pub sequence-longest : (text : List ℕ) (forms : List Form) → IsSequence text forms → LongestSequence text forms []
+sequence-longest text forms seq = record {
+  each = seq.each;
+  text_is = seq.text_is ∙ sym (append-nil (sequence_text forms));
   longest = λ others left each e. omega arith;
 }
 
-pub row-begins : (text : List ℕ) (forms : List Form) → IsSequence text forms → Begins text
-row-begins text forms row = ([], forms, record { each = row.each; text_is = append-nil text ∙ row.text_is })
+pub sequence-begins : (text : List ℕ) (forms : List Form) → IsSequence text forms → Begins text
+sequence-begins text forms seq = ([], forms, record { each = seq.each; text_is = append-nil text ∙ seq.text_is })
 
 pub written-log : WordsGiven → (groups : List Group) → AllByRecursion IsGroup groups
     → IsLog (log_text groups) (items_of groups) None
 written-log words_given groups each =
     let is = written groups each in
-    let row = written-is-row groups is in
+    let seq = written-is-sequence groups is in
     let forms = given (items_words (items_of groups)) in
     record {
       commands = commands_from 0 forms;
-      whole = record { forms = forms; rest = []; sequence = row-longest (log_text groups) forms row; commands_are = refl };
-      begins = row-begins (log_text groups) forms row;
+      whole = record {
+        forms = forms;
+        rest = [];
+        sequence = sequence-longest (log_text groups) forms seq;
+        commands_are = refl;
+      };
+      begins = sequence-begins (log_text groups) forms seq;
       within = (is.within, tt);
       words_are = words_given 0 forms ∙ given-commands (items_words (items_of groups))
           ∙ sym (append-nil (items_words (items_of groups)));

@@ -41,7 +41,7 @@ abbrev pub IsOpen : Option (List Record) → Type 0
 IsOpen None = Unit {0}
 IsOpen (Some records) = AllByRecursion IsRecord records
 
--- the commands can go on to a row of items
+-- the commands can go on to a sequence of items
 abbrev pub BeginsItems : List (List (List ℕ)) → Type 0
 BeginsItems words = (more : List (List (List ℕ))) × (items : List Item) × AreItems items
     × (words ++ more ≡ items_words items)

@@ -14,12 +14,13 @@ use Rattle.fx_log.specs.Items.{multi, exec, Item, AreItems, IsOpen, items_words,
 abbrev pub words_in : List Command → List (List (List ℕ))
 words_in commands = map (λ (command : Command). command.words) commands
 
--- none, or one with which the commands before it begin no row of items
+-- none, or one with which the commands before it begin no sequence of items
 abbrev pub StopsItems : List (List (List ℕ)) → List Command → Type 0
 StopsItems words [] = Unit {0}
 StopsItems words (command ∷ rest) = BeginsItems (words ++ command.words ∷ []) → ⊥
 
--- commands are a row of items, then the part of one, then the command that may not stand there with those behind it, if
+-- commands are a sequence of items, then the part of one, then the command that may not stand there with those behind
+-- it, if
 -- there is one
 pub record Splits (commands front rest : List Command) (items : List Item)
     (opened : Option (List Record)) : Type 0 where
@@ -28,7 +29,8 @@ pub record Splits (commands front rest : List Command) (items : List Item)
   pub front_is : words_in front ≡ items_words items ++ open_words opened
   pub stops : StopsItems (words_in front) rest
 
--- a text is a log so far: its commands are a row of items, then the part of one, and it can go on to a row of frames
+-- a text is a log so far: its commands are a sequence of items, then the part of one, and it can go on to a sequence
+-- of frames
 pub record IsLog (text : List ℕ) (items : List Item) (opened : Option (List Record)) : Type 0 where
   pub commands : List Command
   pub whole : IsWhole text commands

@@ -4,7 +4,7 @@ use rs_base::NoMemory;
 /// What a log has at a bad place.
 #[derive(Clone, Copy, Debug, PartialEq, Eq)]
 pub enum LogKind {
-    /// A byte at which the log begins no row of frames any longer.
+    /// A byte at which the log begins no sequence of frames any longer.
     Frame,
     /// A command that is no record, nor `MULTI` or `EXEC`.
     Row,

@@ -13,8 +13,9 @@ ghost use Rattle.fx_record.specs.Timely.{IsTimelyRecord};
 /// The law of `apply` in the words of the Redis manual. After SET the key holds the string, without a deadline, with
 /// PXAT until that deadline, with KEEPTTL until the deadline that the key had. After DEL the key does not exist.
 /// PEXPIREAT and PERSIST leave the key its value. After RENAME the new name has the value and the deadline of the old
-/// one, which does not exist any longer. After FLUSHALL no key exists. Every other key keeps its value and its deadline.
-/// PEXPIREAT, PERSIST and RENAME of a key that does not exist change nothing, nor does RENAME of a key to its own name.
+/// one, which does not exist any longer. After FLUSHALL no key exists. Every other key keeps its value and its
+/// deadline. PEXPIREAT, PERSIST and RENAME of a key that does not exist change nothing, nor does RENAME of a key to
+/// its own name.
 pub fn records_change_their_key_alone()
     ensures set { (store : Store) (key value : List ℕ)
         → ChangesOnly store (apply store (Record.Set key value)) key (Some (string_entry value None)) }

@@ -1,5 +1,6 @@
 -- What a store may hold stays so.
-use Rattle.std.proofs.Common.{◌≡◌, ℕ, Bool, true, false, cond, List, Option, Some, None, refl, sym, ap, subst, ◌∙◌, unwrap_or}
+use Rattle.std.proofs.Common.{◌≡◌, ℕ, Bool, true, false, cond, List, Option, Some, None, refl, sym, ap, subst, ◌∙◌}
+use Rattle.std.proofs.Common.{unwrap_or}
 use Rattle.std.specs.Option.{option_map_or}
 use Rattle.std.specs.Ordering.{eq_by_cmp}
 use Rattle.std.specs.Cmp.{Equal-is}
@@ -17,11 +18,17 @@ IsStore-empty key entry e = none (sym (finite.get-empty bytes_cmp key) ∙ e)
     none : None ≡ Some entry → IsKey key × IsKept entry
     none e = absurd (cc)
 
-pub IsStore-insert : (store : Store) (k : List ℕ) (e : Entry) → IsStore store → IsKey k → IsKept e → IsStore (finite.insert store k e)
-IsStore-insert store k e h key kept q x is = by_key (eq_by_cmp bytes_cmp q k) refl (sym (finite.get-insert bytes_total store k e q) ∙ is)
+pub IsStore-insert : (store : Store) (k : List ℕ) (e : Entry) → IsStore store → IsKey k → IsKept e
+    → IsStore (finite.insert store k e)
+IsStore-insert store k e h key kept q x is =
+    by_key (eq_by_cmp bytes_cmp q k) refl (sym (finite.get-insert bytes_total store k e q) ∙ is)
   where
-    by_key : (b : Bool) → eq_by_cmp bytes_cmp q k ≡ b → cond b (Some e) (finite.get store q) ≡ Some x → IsKey q × IsKept x
-    by_key true same found = (subst IsKey (sym (bytes_exact q k ((Equal-is (bytes_cmp q k)).0 same))) key, subst IsKept (same_Some e x found) kept)
+    by_key : (b : Bool) → eq_by_cmp bytes_cmp q k ≡ b → cond b (Some e) (finite.get store q) ≡ Some x → IsKey q
+        × IsKept x
+    by_key true same found = (
+      subst IsKey (sym (bytes_exact q k ((Equal-is (bytes_cmp q k)).0 same))) key,
+      subst IsKept (same_Some e x found) kept,
+    )
     by_key false other found = h q x found
 
 pub IsStore-remove : (store : Store) (k : List ℕ) → IsStore store → IsStore (finite.remove store k)
@@ -32,19 +39,27 @@ IsStore-remove store k h q x is = by_key (eq_by_cmp bytes_cmp q k) (sym (finite.
     by_key false found = h q x found
 
 -- to insert the entry that a key has changes nothing
-pub insert-same : (store : Store) (k : List ℕ) (e : Entry) → finite.get store k ≡ Some e → finite.insert store k e ≡ store
-insert-same store k e is = finite.same_map bytes_total bytes_exact (finite.insert store k e) store (λ q. finite.get-insert bytes_total store k e q ∙ by_key q (eq_by_cmp bytes_cmp q k) refl)
+pub insert-same : (store : Store) (k : List ℕ) (e : Entry) → finite.get store k ≡ Some e
+    → finite.insert store k e ≡ store
+insert-same store k e is = finite.same_map bytes_total bytes_exact (finite.insert store k e) store
+    (λ q. finite.get-insert bytes_total store k e q ∙ by_key q (eq_by_cmp bytes_cmp q k) refl)
   where
-    by_key : (q : List ℕ) (b : Bool) → eq_by_cmp bytes_cmp q k ≡ b → cond b (Some e) (finite.get store q) ≡ finite.get store q
+    by_key : (q : List ℕ) (b : Bool) → eq_by_cmp bytes_cmp q k ≡ b
+        → cond b (Some e) (finite.get store q) ≡ finite.get store q
     by_key q true same = sym is ∙ ap (finite.get store) (sym (bytes_exact q k ((Equal-is (bytes_cmp q k)).0 same)))
     by_key q false other = refl
 
 -- a deadline changes, where the key is there
-pub with_deadline-insert : (store : Store) (k : List ℕ) (e : Entry) (d : Option ℕ) → finite.get store k ≡ Some e → with_deadline store k d ≡ finite.insert store k (record e { deadline = d })
-with_deadline-insert store k e d is = ap (λ o. option_map_or (λ (x : Entry). finite.insert store k (record x { deadline = d })) o store) is
+pub with_deadline-insert : (store : Store) (k : List ℕ) (e : Entry) (d : Option ℕ) → finite.get store k ≡ Some e
+    → with_deadline store k d ≡ finite.insert store k (record e { deadline = d })
+with_deadline-insert store k e d is =
+    ap (λ o. option_map_or (λ (x : Entry). finite.insert store k (record x { deadline = d })) o store) is
 
-pub with_deadline-same : (store : Store) (k : List ℕ) (e : Entry) → finite.get store k ≡ Some e → with_deadline store k e.deadline ≡ store
+pub with_deadline-same : (store : Store) (k : List ℕ) (e : Entry) → finite.get store k ≡ Some e
+    → with_deadline store k e.deadline ≡ store
 with_deadline-same store k e is = with_deadline-insert store k e e.deadline is ∙ insert-same store k e is
 
-pub with_deadline-none : (store : Store) (k : List ℕ) (d : Option ℕ) → finite.get store k ≡ None → with_deadline store k d ≡ store
-with_deadline-none store k d is = ap (λ o. option_map_or (λ (x : Entry). finite.insert store k (record x { deadline = d })) o store) is
+pub with_deadline-none : (store : Store) (k : List ℕ) (d : Option ℕ) → finite.get store k ≡ None
+    → with_deadline store k d ≡ store
+with_deadline-none store k d is =
+    ap (λ o. option_map_or (λ (x : Entry). finite.insert store k (record x { deadline = d })) o store) is

@@ -21,14 +21,18 @@ shallow_above : (d m n : ℕ) → 4 * (m + 1) ≤ 3 * (n + 1) → IsShallow d m 
 shallow_above d m n share shallow =
     let wide : 3 ^ d * (4 * (m + 1)) ≤ 3 ^ d * (3 * (n + 1)) = mul-le-mul_left (3 ^ d) share in
     let four : 4 ^ (d + 1) ≡ 4 ^ d * 4 = pow-next 4 d in
-    let three : 3 ^ (d + 1) * (n + 1) ≡ 3 ^ d * (3 * (n + 1)) = ap (λ x. x * (n + 1)) (pow-next 3 d) ∙ mul_assoc (3 ^ d) 3 (n + 1) in
-    let spread : 3 ^ d * (4 * (m + 1)) ≡ 4 * (3 ^ d * (m + 1)) = sym (mul_assoc (3 ^ d) 4 (m + 1)) ∙ ap (λ x. x * (m + 1)) (mul_comm (3 ^ d) 4) ∙ mul_assoc 4 (3 ^ d) (m + 1) in
-    by_products (4 ^ d) (3 ^ d * (m + 1)) (3 ^ d * (4 * (m + 1))) (3 ^ d * (3 * (n + 1))) (4 ^ (d + 1)) (3 ^ (d + 1) * (n + 1)) four three wide spread shallow
+    let three : 3 ^ (d + 1) * (n + 1) ≡ 3 ^ d * (3 * (n + 1)) = ap (λ x. x * (n + 1)) (pow-next 3 d)
+    ∙ mul_assoc (3 ^ d) 3 (n + 1) in
+    let spread : 3 ^ d * (4 * (m + 1)) ≡ 4 * (3 ^ d * (m + 1)) = sym (mul_assoc (3 ^ d) 4 (m + 1))
+    ∙ ap (λ x. x * (m + 1)) (mul_comm (3 ^ d) 4) ∙ mul_assoc 4 (3 ^ d) (m + 1) in
+    by_products (4 ^ d) (3 ^ d * (m + 1)) (3 ^ d * (4 * (m + 1))) (3 ^ d * (3 * (n + 1))) (4 ^ (d + 1))
+    (3 ^ (d + 1) * (n + 1)) four three wide spread shallow
   where
     by_products : (a b c e f h : ℕ) → f ≡ a * 4 → h ≡ e → c ≤ e → c ≡ 4 * b → a ≤ b → f ≤ h
     by_products a b c e f h four three wide spread le = omega arith
 
-pub node_shallow : (m n d e : ℕ) → AreInBalance m n → IsShallow d m → IsShallow e n → IsShallow (max d e + 1) (m + n + 1)
+pub node_shallow : (m n d e : ℕ) → AreInBalance m n → IsShallow d m → IsShallow e n
+    → IsShallow (max d e + 1) (m + n + 1)
 node_shallow m n d e sides left right = by_deeper (max_is_one d e)
   where
     by_deeper : (max d e ≡ d) ⊎ (max d e ≡ e) → IsShallow (max d e + 1) (m + n + 1)

@@ -1,5 +1,6 @@
 -- The order of score and then member is total, and tells all members with their scores apart.
-use Rattle.std.proofs.Common.{◌≡◌, ℤ, Bool, true, false, cond, not, ◌&&◌, ◌⊎◌, inl, inr, Ordering, int_lt, refl, sym, ap, ◌∙◌}
+use Rattle.std.proofs.Common.{◌≡◌, ℤ, Bool, true, false, cond, not, ◌&&◌, ◌⊎◌, inl, inr, Ordering, int_lt, refl, sym}
+use Rattle.std.proofs.Common.{ap, ◌∙◌}
 use mathlib.Core.Bool.{true≢false}
 use Rattle.std.specs.Ordering.{is_eq, is_lt, eq_by_cmp, int_cmp, int_eq, ordering_then}
 use Rattle.std.specs.Cmp.{IsTotalOrder, Equal-is}
@@ -11,7 +12,8 @@ use Rattle.ks_tree.proofs.ByteOrder.{bytes_exact}
 use Rattle.ks_zset.specs.Zset.{ScoredMember, by_score, is_below}
 
 pub score_total : IsTotalOrder by_score
-score_total = then_total (on_total (λ (p : ScoredMember). p.1) int_cmp_total) (on_total (λ (p : ScoredMember). p.0) nat_list_cmp_total)
+score_total = then_total (on_total (λ (p : ScoredMember). p.1) int_cmp_total)
+    (on_total (λ (p : ScoredMember). p.0) nat_list_cmp_total)
 
 then_equal : (r s : Ordering) → ordering_then r s ≡ Equal → (r ≡ Equal) × (s ≡ Equal)
 then_equal Less s e = absurd (true≢false (sym (ap is_eq e)))
@@ -37,7 +39,8 @@ then_is_eq Greater Equal = refl
 then_is_eq Greater Greater = refl
 
 -- members with scores are the same where the members and the scores are
-pub same_scored : (a b : ScoredMember) → eq_by_cmp by_score a b ≡ (eq_by_cmp bytes_cmp a.0 b.0 && eq_by_cmp int_cmp a.1 b.1)
+pub same_scored : (a b : ScoredMember)
+    → eq_by_cmp by_score a b ≡ (eq_by_cmp bytes_cmp a.0 b.0 && eq_by_cmp int_cmp a.1 b.1)
 same_scored a b = then_is_eq (int_cmp a.1 b.1) (bytes_cmp a.0 b.0)
 
 lt_by_cmp : (x y : ℤ) → int_lt x y ≡ is_lt (int_cmp x y)
@@ -69,15 +72,19 @@ turned_false true e t = true≢false (sym e)
 turned_false false e t = true≢false (sym t)
 
 -- what comes before a score below the bound has such a score too
-pub below_falls : (or_equal : Bool) (bound : ℤ) (a b : ScoredMember) → by_score a b ≡ Less → is_below or_equal bound b.1 ≡ true → is_below or_equal bound a.1 ≡ true
+pub below_falls : (or_equal : Bool) (bound : ℤ) (a b : ScoredMember) → by_score a b ≡ Less
+    → is_below or_equal bound b.1 ≡ true → is_below or_equal bound a.1 ≡ true
 below_falls true bound a b e passes =
     elim (less_or_same a.1 b.1 (bytes_cmp a.0 b.0) e) [
       | inl below ↦ not_true (int_lt bound a.1) (λ t. turned_false (int_lt bound b.1) passes
-          (lt_by_cmp bound b.1 ∙ ap is_lt (int_cmp_total.trans bound a.1 b.1 (is_less (int_cmp bound a.1) (sym (lt_by_cmp bound a.1) ∙ t)) below)))
+          (lt_by_cmp bound b.1 ∙ ap is_lt
+          (int_cmp_total.trans bound a.1 b.1 (is_less (int_cmp bound a.1) (sym (lt_by_cmp bound a.1) ∙ t)) below)))
       | inr same ↦ ap (λ s. not (int_lt bound s)) same ∙ passes
     ]
 below_falls false bound a b e passes =
     elim (less_or_same a.1 b.1 (bytes_cmp a.0 b.0) e) [
-      | inl below ↦ lt_by_cmp a.1 bound ∙ ap is_lt (int_cmp_total.trans a.1 b.1 bound below (is_less (int_cmp b.1 bound) (sym (lt_by_cmp b.1 bound) ∙ passes)))
+      | inl below ↦ lt_by_cmp a.1 bound
+          ∙ ap is_lt (int_cmp_total.trans a.1 b.1 bound below
+          (is_less (int_cmp b.1 bound) (sym (lt_by_cmp b.1 bound) ∙ passes)))
       | inr same ↦ ap (λ s. int_lt s bound) same ∙ passes
     ]

@@ -1,5 +1,6 @@
 -- The kind of a bad byte, by what stands before it of the form in which it stands.
-use Rattle.std.proofs.Common.{◌≡◌, ℕ, ◌+◌, ◌-◌, ◌%◌, ◌^◌, ◌<◌, inl, inr, true, cond, eqb, Option, Some, None, List, [], ◌∷◌, ◌++◌, length, take, refl, sym, ap, subst, ◌∙◌, arith, append-nil}
+use Rattle.std.proofs.Common.{◌≡◌, ℕ, ◌+◌, ◌-◌, ◌%◌, ◌^◌, ◌<◌, inl, inr, true, cond, eqb, Option, Some, None, List}
+use Rattle.std.proofs.Common.{[], ◌∷◌, ◌++◌, length, take, refl, sym, ap, subst, ◌∙◌, arith, append-nil}
 use Rattle.std.specs.Prelude.{codes}
 use Rattle.std.specs.Fmt.{decimal}
 use Rattle.std.specs.List.{AllByRecursion}
@@ -8,7 +9,8 @@ use Rattle.std.proofs.lemmas.Fmt.{decimal_by_steps}
 use Rattle.resp_read.specs.declared.phase.Line.{Line}
 use Rattle.resp_read.specs.declared.phase.Line.TheVariants.{ForCount, ForNegative, ForWord}
 use Rattle.resp_read.specs.declared.phase.Phase.{Phase}
-use Rattle.resp_read.specs.declared.phase.Phase.TheVariants.{AtStar, InLine, LineEnd, AtDollar, InWord, WordCr, WordLf, Dead}
+use Rattle.resp_read.specs.declared.phase.Phase.TheVariants.{AtStar, InLine, LineEnd, AtDollar, InWord, WordCr}
+use Rattle.resp_read.specs.declared.phase.Phase.TheVariants.{WordLf, Dead}
 use Rattle.resp_read.specs.declared.parser.Parser.{Parser}
 use Rattle.resp_read.specs.declared.stops.BadFrame.{BadFrame}
 use Rattle.resp_read.specs.Frames.{count_line, Form, IsNoLf, IsAtWord, IsDue, IsBad}
@@ -59,8 +61,7 @@ due_in (InLine ForNegative number) s b fits gone =
     record {
       line = 45 ∷ digits_of number;
       rest_is = refl;
-      open_line =
-          ((λ e. omega arith), no_lf-digits ForNegative s.room number fits.1);
+      open_line = ((λ e. omega arith), no_lf-digits ForNegative s.room number fits.1);
     }
 due_in (InLine (ForWord behind) number) s b fits gone = record {
   before = front (behind + 1) s.words;
@@ -75,8 +76,7 @@ due_in (LineEnd ForNegative n) s b fits gone =
     record {
       line = 45 ∷ (decimal n ++ 13 ∷ []);
       rest_is = refl;
-      open_line =
-          ((λ e. omega arith), no_lf-end ForNegative s.room n fits.1);
+      open_line = ((λ e. omega arith), no_lf-end ForNegative s.room n fits.1);
     }
 due_in (LineEnd (ForWord behind) n) s b fits gone = record {
   before = front (behind + 1) s.words;

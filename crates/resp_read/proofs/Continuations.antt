@@ -1,5 +1,6 @@
 -- A text read on from the unfinished form that was kept of it.
-use Rattle.std.proofs.Common.{◌≡◌, ℕ, ◌+◌, cond, Option, Some, None, List, [], ◌∷◌, ◌++◌, length, take, drop, refl, sym, ap, subst, ◌∙◌, arith, append_assoc, append-nil, length-append}
+use Rattle.std.proofs.Common.{◌≡◌, ℕ, ◌+◌, cond, Option, Some, None, List, [], ◌∷◌, ◌++◌, length, take, drop, refl}
+use Rattle.std.proofs.Common.{sym, ap, subst, ◌∙◌, arith, append_assoc, append-nil, length-append}
 use Rattle.std.specs.List.{AllByRecursion}
 use Rattle.std.proofs.Math.Seq.{take-append_seam, drop-append_seam}
 use Rattle.std.proofs.lemmas.Grind.{flat_map-append}
@@ -7,7 +8,8 @@ use Rattle.std.proofs.lemmas.List.{append_cancel_left}
 use Rattle.resp_read.specs.declared.command.Command.{Command}
 use Rattle.resp_read.specs.declared.cursor.Cursor.{Cursor}
 use Rattle.resp_read.specs.declared.parser.Parser.{Parser}
-use Rattle.resp_read.specs.Frames.{form_text, sequence_text, Form, Given, EmptyArray, NegativeArray, frame, IsForm, within_u64, commands_from, Begins, LongestSequence}
+use Rattle.resp_read.specs.Frames.{form_text, sequence_text, Form, Given, EmptyArray, NegativeArray, frame, IsForm}
+use Rattle.resp_read.specs.Frames.{within_u64, commands_from, Begins, LongestSequence}
 use Rattle.resp_read.specs.Automaton.{fresh, next, out, with_form, kept, is_dead, kind_in}
 use Rattle.resp_read.specs.Reading.{Reading, Unfinished, Broken, read_from, reading, behind_forms, Reads, Adds}
 use Rattle.resp_read.specs.Places.{IsReady, StandsBehind}

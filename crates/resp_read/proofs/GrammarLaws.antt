@@ -1,12 +1,15 @@
 -- The laws of a reading.
-use Rattle.std.proofs.Common.{◌≡◌, ℕ, ◌+◌, Bool, true, false, cond, List, [], ◌∷◌, ◌++◌, length, map, take, refl, sym, ap, subst, ◌∙◌, arith, append-nil}
+use Rattle.std.proofs.Common.{◌≡◌, ℕ, ◌+◌, Bool, true, false, cond, List, [], ◌∷◌, ◌++◌, length, map, take, refl, sym}
+use Rattle.std.proofs.Common.{ap, subst, ◌∙◌, arith, append-nil}
 use Rattle.std.proofs.Math.Seq.{take-length}
 use Rattle.resp_read.specs.declared.command.Command.{Command}
-use Rattle.resp_read.specs.Frames.{Form, Given, EmptyArray, NegativeArray, form_text, frame, Begins, LongestSequence, IsBadPlace, commands_in, commands_from}
+use Rattle.resp_read.specs.Frames.{Form, Given, EmptyArray, NegativeArray, form_text, frame, Begins, LongestSequence}
+use Rattle.resp_read.specs.Frames.{IsBadPlace, commands_in, commands_from}
 use Rattle.resp_read.specs.declared.parser.Parser.{Parser}
 use Rattle.resp_read.specs.declared.stops.BadFrame.{BadFrame}
 use Rattle.resp_read.specs.Automaton.{fresh, next, out, with_form, is_dead}
-use Rattle.resp_read.specs.Reading.{Reading, Unfinished, Broken, reading, read_from, behind_forms, going_on, IsReadingOf}
+use Rattle.resp_read.specs.Reading.{Reading, Unfinished, Broken, reading, read_from, behind_forms, going_on}
+use Rattle.resp_read.specs.Reading.{IsReadingOf}
 use Rattle.resp_read.proofs.ReachedStates.{Reads-begins}
 use Rattle.resp_read.proofs.Meaning.{Means, reading-means, Reads-longest, Breaks-sequence}
 use Rattle.resp_read.proofs.BadBytes.{Breaks-bad}

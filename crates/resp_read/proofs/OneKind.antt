@@ -1,5 +1,7 @@
 -- A text has one bad place, and its byte has one kind.
-use Rattle.std.proofs.Common.{◌≡◌, ℕ, zero, suc, ◌+◌, ◌-◌, ◌*◌, ◌<◌, ◌≤◌, ◌⊎◌, inl, inr, Bool, true, false, ◌&&◌, cond, eqb, leb, Option, Some, None, List, [], ◌∷◌, ◌++◌, length, take, refl, sym, ap, subst, ◌∙◌, arith, append_assoc}
+use Rattle.std.proofs.Common.{◌≡◌, ℕ, zero, suc, ◌+◌, ◌-◌, ◌*◌, ◌<◌, ◌≤◌, ◌⊎◌, inl, inr, Bool, true, false, ◌&&◌}
+use Rattle.std.proofs.Common.{cond, eqb, leb, Option, Some, None, List, [], ◌∷◌, ◌++◌, length, take, refl, sym, ap}
+use Rattle.std.proofs.Common.{subst, ◌∙◌, arith, append_assoc}
 use Rattle.std.specs.Prelude.{codes}
 use Rattle.std.specs.List.{AllByRecursion, sum_by}
 use Rattle.std.proofs.lemmas.Bool.{cond-true, cond-false, ne_eqb, cases_lt}
@@ -7,12 +9,15 @@ use Rattle.resp_read.specs.declared.command.TheConstants.{MAX_COMMAND_BYTES}
 use Rattle.resp_read.specs.declared.phase.Line.{Line}
 use Rattle.resp_read.specs.declared.phase.Line.TheVariants.{ForCount, ForNegative, ForWord}
 use Rattle.resp_read.specs.declared.phase.Phase.{Phase}
-use Rattle.resp_read.specs.declared.phase.Phase.TheVariants.{AtStar, InLine, LineEnd, AtDollar, InWord, WordCr, WordLf, Dead}
+use Rattle.resp_read.specs.declared.phase.Phase.TheVariants.{AtStar, InLine, LineEnd, AtDollar, InWord, WordCr}
+use Rattle.resp_read.specs.declared.phase.Phase.TheVariants.{WordLf, Dead}
 use Rattle.resp_read.specs.declared.parser.Parser.{Parser}
 use Rattle.resp_read.specs.declared.stops.BadFrame.{BadFrame}
 use Rattle.resp_read.specs.declared.stops.BadFrame.TheVariants.{NoStar, Count, NoDollar, Length, NoEnd}
-use Rattle.resp_read.specs.Frames.{count_line, sequence_text, Form, EmptyArray, NegativeArray, IsNoLf, IsDue, IsBad, IsBadPlace, LongestSequence, Begins}
-use Rattle.resp_read.specs.Automaton.{limit, with_digit, phase_after, fresh, next, next_in, out, out_in, line_ended, with_form, kept, is_dead, kind_in, line_kind}
+use Rattle.resp_read.specs.Frames.{count_line, sequence_text, Form, EmptyArray, NegativeArray, IsNoLf, IsDue, IsBad}
+use Rattle.resp_read.specs.Frames.{IsBadPlace, LongestSequence, Begins}
+use Rattle.resp_read.specs.Automaton.{limit, with_digit, phase_after, fresh, next, next_in, out, out_in, line_ended}
+use Rattle.resp_read.specs.Automaton.{with_form, kept, is_dead, kind_in, line_kind}
 use Rattle.resp_read.specs.Reading.{Broken, read_from}
 use Rattle.resp_read.proofs.Cases.{by_test}
 use Rattle.resp_read.proofs.Sequences.{state_of, read-front, read-word_bytes}
@@ -87,8 +92,7 @@ line-step kind (InLine line number) s b is other =
       next_is = refl;
       out_is = refl;
       kind_is = is;
-      goes =
-          stays kind s.room line number b is;
+      goes = stays kind s.room line number b is;
     }
 line-step kind (LineEnd ForCount n) s b is other =
     let e = ne_eqb b 10 other in

@@ -1,5 +1,6 @@
 -- What a reader answers to a piece, and what it stands for then.
-use Rattle.std.proofs.Common.{◌≡◌, ℕ, ◌+◌, ◌<◌, ◌≤◌, ◌⊎◌, inl, inr, Ok, Err, List, [], ◌++◌, length, map, take, refl, sym, ap, subst, ◌∙◌, arith, append_assoc, append-nil, length-append}
+use Rattle.std.proofs.Common.{◌≡◌, ℕ, ◌+◌, ◌<◌, ◌≤◌, ◌⊎◌, inl, inr, Ok, Err, List, [], ◌++◌, length, map, take, refl}
+use Rattle.std.proofs.Common.{sym, ap, subst, ◌∙◌, arith, append_assoc, append-nil, length-append}
 use Rattle.std.proofs.lemmas.Grind.{flat_map-append}
 use Rattle.std.specs.List.{AllByRecursion}
 use Rattle.std.proofs.Math.Seq.{take-length, take-append_seam}
@@ -12,9 +13,12 @@ use Rattle.resp_read.specs.declared.reader.Fate.{Fate}
 use Rattle.resp_read.specs.declared.reader.Fate.TheVariants as fate_is
 use Rattle.resp_read.specs.declared.stops.BadFrame.{BadFrame}
 use Rattle.resp_read.specs.declared.stops.FeedStop.TheVariants.{Bad}
-use Rattle.resp_read.specs.Frames.{form_text, sequence_text, Form, IsForm, within_u64, commands_from, Begins, LongestSequence, IsBadPlace, IsBad}
+use Rattle.resp_read.specs.Frames.{form_text, sequence_text, Form, IsForm, within_u64, commands_from, Begins}
+use Rattle.resp_read.specs.Frames.{LongestSequence, IsBadPlace, IsBad}
 use Rattle.resp_read.specs.Automaton.{kept}
-use Rattle.resp_read.specs.Reading.{Reading, Unfinished, Broken, reading, behind_forms, ReaderState, Waiting, Stopped, Spent, answer_at, after_at, answer, after, Took, Refused, HasRead, Adds, Goes, Breaks}
+use Rattle.resp_read.specs.Reading.{Reading, Unfinished, Broken, reading, behind_forms, ReaderState, Waiting, Stopped}
+use Rattle.resp_read.specs.Reading.{Spent, answer_at, after_at, answer, after, Took, Refused, HasRead, Adds, Goes}
+use Rattle.resp_read.specs.Reading.{Breaks}
 use Rattle.resp_read.specs.Places.{seen, StandsBehind, BreaksAt}
 use Rattle.resp_read.proofs.ReachedStates.{Reads-begins}
 use Rattle.resp_read.proofs.Meaning.{Means, reading-means, Reads-longest, Breaks-sequence}

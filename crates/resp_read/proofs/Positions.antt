@@ -1,5 +1,7 @@
 -- Where a reader stands, byte by byte.
-use Rattle.std.proofs.Common.{◌≡◌, ℕ, ◌+◌, ◌-◌, ◌<◌, true, false, ◌&&◌, cond, eqb, Option, Some, None, is_some, List, [], ◌∷◌, ◌++◌, length, get_or, take, drop, refl, sym, ap, subst, ◌∙◌, arith, append_assoc, append-nil, length-append}
+use Rattle.std.proofs.Common.{◌≡◌, ℕ, ◌+◌, ◌-◌, ◌<◌, true, false, ◌&&◌, cond, eqb, Option, Some, None, is_some, List}
+use Rattle.std.proofs.Common.{[], ◌∷◌, ◌++◌, length, get_or, take, drop, refl, sym, ap, subst, ◌∙◌, arith}
+use Rattle.std.proofs.Common.{append_assoc, append-nil, length-append}
 use Rattle.std.proofs.lemmas.Bool.{cond-true}
 use Rattle.std.proofs.lemmas.Grind.{common_steps}
 use Rattle.std.proofs.lemmas.List.{take_more}
@@ -8,10 +10,13 @@ use Rattle.resp_read.specs.declared.cursor.BadByte.{BadByte}
 use Rattle.resp_read.specs.declared.cursor.Cursor.{Cursor}
 use Rattle.resp_read.specs.declared.phase.Line.TheVariants.{ForCount, ForNegative, ForWord}
 use Rattle.resp_read.specs.declared.phase.Phase.{Phase}
-use Rattle.resp_read.specs.declared.phase.Phase.TheVariants.{AtStar, InLine, LineEnd, AtDollar, InWord, WordCr, WordLf, Dead}
+use Rattle.resp_read.specs.declared.phase.Phase.TheVariants.{AtStar, InLine, LineEnd, AtDollar, InWord, WordCr}
+use Rattle.resp_read.specs.declared.phase.Phase.TheVariants.{WordLf, Dead}
 use Rattle.resp_read.specs.declared.parser.Parser.{Parser}
-use Rattle.resp_read.specs.Frames.{form_text, sequence_text, Form, Given, EmptyArray, NegativeArray, frame, within_u64, commands_from}
-use Rattle.resp_read.specs.Automaton.{fresh, next, next_in, with_word, out, out_in, with_form, words_of, kept, is_dead, kind_in}
+use Rattle.resp_read.specs.Frames.{form_text, sequence_text, Form, Given, EmptyArray, NegativeArray, frame}
+use Rattle.resp_read.specs.Frames.{within_u64, commands_from}
+use Rattle.resp_read.specs.Automaton.{fresh, next, next_in, with_word, out, out_in, with_form, words_of, kept}
+use Rattle.resp_read.specs.Automaton.{is_dead, kind_in}
 use Rattle.resp_read.specs.Reading.{Broken, read_from, reading}
 use Rattle.resp_read.specs.Places.{start_after, waiting_after, moved, given_at, bad_byte, StandsBehind, BreaksAt}
 use Rattle.resp_read.proofs.Cases.{either_way}
@@ -80,8 +85,7 @@ out-whole (WordLf behind) s b = either_way
       phase = AtDollar (behind - 1);
       words = s.words ++ s.word ∷ [];
       word = [];
-      room =
-          s.room - length s.word;
+      room = s.room - length s.word;
     })) ≡ [])
     (eqb behind 0)
     (λ e. refl)

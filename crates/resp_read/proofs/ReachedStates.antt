@@ -1,5 +1,6 @@
 -- The state that a text is read to, where it begins a sequence of forms.
-use Rattle.std.proofs.Common.{◌≡◌, ℕ, zero, suc, ◌+◌, ◌-◌, inl, inr, false, cond, eqb, Option, Some, None, List, [], ◌∷◌, ◌++◌, length, refl, sym, ap, subst, ◌∙◌, arith, append_assoc, append-nil}
+use Rattle.std.proofs.Common.{◌≡◌, ℕ, zero, suc, ◌+◌, ◌-◌, inl, inr, false, cond, eqb, Option, Some, None, List, []}
+use Rattle.std.proofs.Common.{◌∷◌, ◌++◌, length, refl, sym, ap, subst, ◌∙◌, arith, append_assoc, append-nil}
 use Rattle.std.specs.List.{AllByRecursion}
 use Rattle.std.proofs.lemmas.Bool.{cond-false, both_ways}
 use Rattle.std.proofs.lemmas.Bool.Decides.{nat_tests}
@@ -8,7 +9,8 @@ use Rattle.resp_read.specs.declared.command.TheConstants.{MAX_COMMAND_BYTES}
 use Rattle.resp_read.specs.declared.phase.Line.{Line}
 use Rattle.resp_read.specs.declared.phase.Line.TheVariants.{ForCount, ForNegative, ForWord}
 use Rattle.resp_read.specs.declared.phase.Phase.{Phase}
-use Rattle.resp_read.specs.declared.phase.Phase.TheVariants.{AtStar, InLine, LineEnd, AtDollar, InWord, WordCr, WordLf, Dead}
+use Rattle.resp_read.specs.declared.phase.Phase.TheVariants.{AtStar, InLine, LineEnd, AtDollar, InWord, WordCr}
+use Rattle.resp_read.specs.declared.phase.Phase.TheVariants.{WordLf, Dead}
 use Rattle.resp_read.specs.declared.parser.Parser.{Parser}
 use Rattle.resp_read.specs.Frames.{form_text, sequence_text, Form, IsForm, Begins}
 use Rattle.resp_read.specs.Automaton.{with_digit, fresh, next, out, with_form, kept, is_dead, kind_in}
@@ -22,8 +24,7 @@ pub Reads-start : Reads [] fresh []
 Reads-start = record {
   each = tt;
   fits = record { words_are = refl; word_is = refl; room_is = refl };
-  text_is =
-      refl;
+  text_is = refl;
   run = λ rest. refl;
 }
 

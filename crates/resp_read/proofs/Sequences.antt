@@ -1,5 +1,6 @@
 -- A sequence of forms is read as those forms, whatever follows it.
-use Rattle.std.proofs.Common.{◌≡◌, ℕ, suc, ◌+◌, ◌-◌, ◌/◌, ◌%◌, ◌^◌, ◌<◌, ◌≤◌, false, cond, eqb, Option, Some, None, List, [], ◌∷◌, ◌++◌, length, refl, sym, ap, ◌∙◌, arith, append_assoc, append-nil}
+use Rattle.std.proofs.Common.{◌≡◌, ℕ, suc, ◌+◌, ◌-◌, ◌/◌, ◌%◌, ◌^◌, ◌<◌, ◌≤◌, false, cond, eqb, Option, Some, None}
+use Rattle.std.proofs.Common.{List, [], ◌∷◌, ◌++◌, length, refl, sym, ap, ◌∙◌, arith, append_assoc, append-nil}
 use Rattle.std.specs.Prelude.{codes}
 use Rattle.std.specs.Fmt.{decimal}
 use Rattle.std.specs.List.{AllByRecursion, flat_map, sum_by}
@@ -13,8 +14,10 @@ use Rattle.resp_read.specs.declared.phase.Line.TheVariants.{ForCount, ForNegativ
 use Rattle.resp_read.specs.declared.phase.Phase.{Phase}
 use Rattle.resp_read.specs.declared.phase.Phase.TheVariants.{InLine, LineEnd, AtDollar, InWord, WordCr, WordLf}
 use Rattle.resp_read.specs.declared.parser.Parser.{Parser}
-use Rattle.resp_read.specs.Frames.{count_line, bulk, form_text, sequence_text, Form, Given, EmptyArray, NegativeArray, IsForm, IsWord, IsFront}
-use Rattle.resp_read.specs.Automaton.{limit, first_in_line, more_in_line, line_ended, phase_after, fresh, kept, is_dead, kind_in}
+use Rattle.resp_read.specs.Frames.{count_line, bulk, form_text, sequence_text, Form, Given, EmptyArray, NegativeArray}
+use Rattle.resp_read.specs.Frames.{IsForm, IsWord, IsFront}
+use Rattle.resp_read.specs.Automaton.{limit, first_in_line, more_in_line, line_ended, phase_after, fresh, kept}
+use Rattle.resp_read.specs.Automaton.{is_dead, kind_in}
 use Rattle.resp_read.specs.Reading.{Broken, read_from}
 
 -- a state by its parts

@@ -1,5 +1,7 @@
 -- A byte that does not break a sequence: what is kept grows by it, or a form ends with it.
-use Rattle.std.proofs.Common.{◌≡◌, ℕ, zero, suc, ◌+◌, ◌-◌, ◌*◌, ◌/◌, ◌%◌, ◌^◌, ◌<◌, ◌≤◌, ◌⊎◌, inl, inr, true, ◌&&◌, cond, eqb, leb, Option, Some, None, List, [], ◌∷◌, ◌++◌, length, refl, sym, ap, subst, ◌∙◌, arith, append_assoc, append-nil, length-append}
+use Rattle.std.proofs.Common.{◌≡◌, ℕ, zero, suc, ◌+◌, ◌-◌, ◌*◌, ◌/◌, ◌%◌, ◌^◌, ◌<◌, ◌≤◌, ◌⊎◌, inl, inr, true, ◌&&◌}
+use Rattle.std.proofs.Common.{cond, eqb, leb, Option, Some, None, List, [], ◌∷◌, ◌++◌, length, refl, sym, ap, subst}
+use Rattle.std.proofs.Common.{◌∙◌, arith, append_assoc, append-nil, length-append}
 use Rattle.std.specs.Prelude.{codes}
 use Rattle.std.specs.Fmt.{decimal}
 use Rattle.std.specs.List.{AllByRecursion, flat_map, sum_by}
@@ -10,10 +12,13 @@ use Rattle.std.proofs.lemmas.List.Sums.{sum_by-cons, sum_by-append}
 use Rattle.resp_read.specs.declared.phase.Line.{Line}
 use Rattle.resp_read.specs.declared.phase.Line.TheVariants.{ForCount, ForNegative, ForWord}
 use Rattle.resp_read.specs.declared.phase.Phase.{Phase}
-use Rattle.resp_read.specs.declared.phase.Phase.TheVariants.{AtStar, InLine, LineEnd, AtDollar, InWord, WordCr, WordLf, Dead}
+use Rattle.resp_read.specs.declared.phase.Phase.TheVariants.{AtStar, InLine, LineEnd, AtDollar, InWord, WordCr}
+use Rattle.resp_read.specs.declared.phase.Phase.TheVariants.{WordLf, Dead}
 use Rattle.resp_read.specs.declared.parser.Parser.{Parser}
-use Rattle.resp_read.specs.Frames.{count_line, bulk, frame, form_text, Form, Given, EmptyArray, NegativeArray, IsForm, IsWord}
-use Rattle.resp_read.specs.Automaton.{limit, with_digit, fresh, with_word, next_in, next, out_in, out, front, line_front, digits_of, kept_in, kept, is_dead}
+use Rattle.resp_read.specs.Frames.{count_line, bulk, frame, form_text, Form, Given, EmptyArray, NegativeArray, IsForm}
+use Rattle.resp_read.specs.Frames.{IsWord}
+use Rattle.resp_read.specs.Automaton.{limit, with_digit, fresh, with_word, next_in, next, out_in, out, front}
+use Rattle.resp_read.specs.Automaton.{line_front, digits_of, kept_in, kept, is_dead}
 use Rattle.resp_read.specs.Limits.{FitsLine, FitsNumber, FitsIn, Fits}
 use Rattle.resp_read.proofs.Cases.{by_test}
 use Rattle.rs_base.proofs.Lists.{each-append}
@@ -152,8 +157,7 @@ count_end-step : (n : ℕ) (s : Parser) (b : ℕ) → fit (LineEnd ForCount n) s
     → Goes (grown (LineEnd ForCount n) s b) (next_in (LineEnd ForCount n) s b) (out_in (LineEnd ForCount n) s b)
 count_end-step n s b fits = by_test
     (λ t. Goes (grown (LineEnd ForCount n) s b) (record s {
-      phase =
-          cond t (cond (eqb n 0) AtStar (AtDollar (n - 1))) Dead;
+      phase = cond t (cond (eqb n 0) AtStar (AtDollar (n - 1))) Dead;
     }) (cond (t && eqb n 0) (Some EmptyArray) None))
     (eqb b 10)
     (λ e. by_test
@@ -344,8 +348,7 @@ lf-step behind s b fits =
         some = omega (arith, longer);
         few = omega (arith, longer, fits.0.few, last);
         each = each;
-        all =
-            omega (arith, more, fits.0.all, fits.1.0);
+        all = omega (arith, more, fits.0.all, fits.1.0);
       };
       text_is = words_grown (count_line (codes "*") (length s.words + (behind + 1))) s.words s.word b (eqb-true b 10 e)
           ∙ ap (λ n. count_line (codes "*") n ++ flat_map bulk words) (omega (arith, longer, last))
@@ -358,8 +361,7 @@ lf-step behind s b fits =
         record {
           few = omega (arith, longer, fits.0.few, some);
           each = each;
-          all =
-              omega (arith, more, fits.0.all, fits.1.0);
+          all = omega (arith, more, fits.0.all, fits.1.0);
         },
         refl,
       );

@@ -1,11 +1,13 @@
 -- Requests read byte by byte. What these steps amount to is stated over the grammar, in `reading_is_the_grammar`.
-use Rattle.std.specs.Prelude.{ℕ, ◌+◌, ◌-◌, ◌*◌, ◌==◌, nat_le, min, Bool, true, false, ◌&&◌, if◌then◌else◌, Option, Some, None, List, [], ◌∷◌, ◌++◌, length, decimal, codes}
+use Rattle.std.specs.Prelude.{ℕ, ◌+◌, ◌-◌, ◌*◌, ◌==◌, nat_le, min, Bool, true, false, ◌&&◌, if◌then◌else◌, Option}
+use Rattle.std.specs.Prelude.{Some, None, List, [], ◌∷◌, ◌++◌, length, decimal, codes}
 use Rattle.std.specs.List.{flat_map}
 use Rattle.resp_read.specs.declared.command.TheConstants.{MAX_WORDS, MAX_WORD_BYTES, MAX_COMMAND_BYTES}
 use Rattle.resp_read.specs.declared.phase.Line.{Line}
 use Rattle.resp_read.specs.declared.phase.Line.TheVariants.{ForCount, ForNegative, ForWord}
 use Rattle.resp_read.specs.declared.phase.Phase.{Phase}
-use Rattle.resp_read.specs.declared.phase.Phase.TheVariants.{AtStar, InLine, LineEnd, AtDollar, InWord, WordCr, WordLf, Dead}
+use Rattle.resp_read.specs.declared.phase.Phase.TheVariants.{AtStar, InLine, LineEnd, AtDollar, InWord, WordCr}
+use Rattle.resp_read.specs.declared.phase.Phase.TheVariants.{WordLf, Dead}
 use Rattle.resp_read.specs.declared.parser.Parser.{Parser}
 use Rattle.resp_read.specs.declared.stops.BadFrame.{BadFrame}
 use Rattle.resp_read.specs.declared.stops.BadFrame.TheVariants.{NoStar, Count, NoDollar, Length, NoEnd}

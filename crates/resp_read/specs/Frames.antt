@@ -1,5 +1,6 @@
 -- The frames of RESP2 requests: a command is an array of bulk strings, its words.
-use Rattle.std.specs.Prelude.{◌≡◌, ℕ, ◌+◌, ◌-◌, ◌^◌, ◌<◌, ◌≤◌, ◌⊎◌, min, List, [], ◌∷◌, ◌++◌, length, take, decimal, codes, sum_by}
+use Rattle.std.specs.Prelude.{◌≡◌, ℕ, ◌+◌, ◌-◌, ◌^◌, ◌<◌, ◌≤◌, ◌⊎◌, min, List, [], ◌∷◌, ◌++◌, length, take, decimal}
+use Rattle.std.specs.Prelude.{codes, sum_by}
 use Rattle.std.specs.List.{AllByRecursion, flat_map}
 use Rattle.rs_base.specs.Bytes.{crlf}
 use Rattle.resp_read.specs.declared.command.Command.{Command}

@@ -5,7 +5,8 @@ use Rattle.resp_read.specs.declared.command.TheConstants.{MAX_WORDS, MAX_WORD_BY
 use Rattle.resp_read.specs.declared.phase.Line.{Line}
 use Rattle.resp_read.specs.declared.phase.Line.TheVariants.{ForCount, ForNegative, ForWord}
 use Rattle.resp_read.specs.declared.phase.Phase.{Phase}
-use Rattle.resp_read.specs.declared.phase.Phase.TheVariants.{AtStar, InLine, LineEnd, AtDollar, InWord, WordCr, WordLf, Dead}
+use Rattle.resp_read.specs.declared.phase.Phase.TheVariants.{AtStar, InLine, LineEnd, AtDollar, InWord, WordCr}
+use Rattle.resp_read.specs.declared.phase.Phase.TheVariants.{WordLf, Dead}
 use Rattle.resp_read.specs.declared.parser.Parser.{Parser}
 use Rattle.resp_read.specs.Frames.{IsWord}
 

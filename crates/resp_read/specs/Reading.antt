@@ -6,7 +6,8 @@ use Rattle.resp_read.specs.declared.parser.Parser.{Parser}
 use Rattle.resp_read.specs.declared.stops.BadFrame.{BadFrame}
 use Rattle.resp_read.specs.declared.stops.FeedStop.{FeedStop}
 use Rattle.resp_read.specs.declared.stops.FeedStop.TheVariants.{Bad, Failed, NoMemory}
-use Rattle.resp_read.specs.Frames.{Form, IsForm, sequence_text, within_u64, commands_in, commands_from, Begins, LongestSequence, IsBadPlace, IsBad, IsWhole}
+use Rattle.resp_read.specs.Frames.{Form, IsForm, sequence_text, within_u64, commands_in, commands_from, Begins}
+use Rattle.resp_read.specs.Frames.{LongestSequence, IsBadPlace, IsBad, IsWhole}
 use Rattle.resp_read.specs.Limits.{Fits}
 use Rattle.resp_read.specs.Automaton.{fresh, next, out, with_form, kept, is_dead, kind_in}
 

@@ -1,7 +1,8 @@
 ghost use Rattle.std.specs.Prelude.{◌≡◌, [], ◌++◌, List, true, false, IfOk, OnOk, IfSome, IfNone};
 ghost use Rattle.resp_read.specs.Automaton.{fresh, next, out, words_of, kept, is_dead};
 ghost use Rattle.resp_read.specs.Frames.{Form};
-ghost use Rattle.resp_read.specs.Places.{start_after, waiting_after, moved, given_at, bad_byte, IsReady, StandsBehind, BreaksAt};
+ghost use Rattle.resp_read.specs.Places.{start_after, waiting_after, moved, given_at, bad_byte, IsReady};
+ghost use Rattle.resp_read.specs.Places.{StandsBehind, BreaksAt};
 
 use crate::parser::Parser;
 use crate::{BadFrame, Command, Commands};

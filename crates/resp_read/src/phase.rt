@@ -1,6 +1,7 @@
 ghost use Rattle.std.specs.Prelude.{◌≡◌, ◌==◌, if◌then◌else◌, is_some};
 ghost use Rattle.resp_read.specs.declared.parser.Parser.{Parser};
-ghost use Rattle.resp_read.specs.Automaton.{limit, with_digit, first_in_line, more_in_line, line_ended, line_kind, word_ended, phase_after, out_in, kind_in, is_dead};
+ghost use Rattle.resp_read.specs.Automaton.{limit, with_digit, first_in_line, more_in_line, line_ended, line_kind};
+ghost use Rattle.resp_read.specs.Automaton.{word_ended, phase_after, out_in, kind_in, is_dead};
 
 use crate::{BadFrame, MAX_WORD_BYTES, MAX_WORDS};
 

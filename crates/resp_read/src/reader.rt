@@ -1,7 +1,8 @@
 ghost use Rattle.std.specs.Prelude.{◌≡◌, List, ℕ, [], ◌++◌, length, Ok, Err, IfOk, IfErr};
 ghost use Rattle.resp_read.specs.declared.stops.FeedStop.{FeedStop};
 ghost use Rattle.resp_read.specs.Frames.{within_u64};
-ghost use Rattle.resp_read.specs.Reading.{Waiting, Stopped, Spent, answer, after, unfinished, Stops, Took, RefusedBy, HasRead, Goes, StopsAt};
+ghost use Rattle.resp_read.specs.Reading.{Waiting, Stopped, Spent, answer, after, unfinished, Stops, Took, RefusedBy};
+ghost use Rattle.resp_read.specs.Reading.{HasRead, Goes, StopsAt};
 
 use crate::cursor::Cursor;
 use crate::{Commands, FeedStop};

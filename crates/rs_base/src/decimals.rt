@@ -1,4 +1,5 @@
-ghost use Rattle.std.specs.Prelude.{◌≡◌, ℕ, ◌^◌, ◌<◌, length, [], ◌∷◌, ◌++◌, List, Some, false, decimal, position, not, IfSome, IsSomeAnd, OnOk};
+ghost use Rattle.std.specs.Prelude.{◌≡◌, ℕ, ◌^◌, ◌<◌, length, [], ◌∷◌, ◌++◌, List, Some, false, decimal, position};
+ghost use Rattle.std.specs.Prelude.{not, IfSome, IsSomeAnd, OnOk};
 ghost use Rattle.std.specs.Char.{is_ascii_digit};
 ghost use Rattle.rs_base.specs.Decimals.{NoDigitFirst};
 

@@ -13,8 +13,9 @@ pub trait Calls {
     fn begin(&mut self);
 }
 
-/// Judges the cases of a text one after another. Adds a line `line N: CALL => ANSWER` for each whose answer is another, with the
-/// answer that was given, and a line `line N: no case` for each line that is none, which counts as wrong.
+/// Judges the cases of a text one after another. Adds a line `line N: CALL => ANSWER` for each whose answer is
+/// another, with the answer that was given, and a line `line N: no case` for each line that is none, which counts as
+/// wrong.
 pub fn judge<C: Calls>(
     alloc: Global,
     text: &str,

@@ -1,11 +1,14 @@
 -- Numerals and their texts.
-use Rattle.std.proofs.Common.{◌≡◌, ◌≢◌, ℕ, ◌+◌, ◌*◌, ◌^◌, ◌<◌, ◌≤◌, ℤ, pos, Option, Some, None, Result, Ok, Err, IsErr, MatchOption, OnSome, IsSomeAnd, List, [], ◌∷◌, ◌++◌, length, refl, sym, ap, subst, ◌∙◌, arith, ◌⊎◌, inl, inr, length-append, append-nil}
+use Rattle.std.proofs.Common.{◌≡◌, ◌≢◌, ℕ, ◌+◌, ◌*◌, ◌^◌, ◌<◌, ◌≤◌, ℤ, pos, Option, Some, None, Result, Ok, Err}
+use Rattle.std.proofs.Common.{IsErr, MatchOption, OnSome, IsSomeAnd, List, [], ◌∷◌, ◌++◌, length, refl, sym, ap}
+use Rattle.std.proofs.Common.{subst, ◌∙◌, arith, ◌⊎◌, inl, inr, length-append, append-nil}
 use Rattle.std.specs.Char.{digit_value}
 use Rattle.std.specs.Str.Parse.{AllDigits, IsNumeral as AreDigits, digits_value}
 use Rattle.std.proofs.lemmas.Int.Digits.{digits_value-lt}
 use Rattle.rs_whole.specs.Wholes.{IsWhole, Computes}
 use Rattle.rs_whole.specs.Digits.{Finds, NoDigitFirst, NoFractionFirst}
-use Rattle.rs_whole.specs.Numerals.{Exponent, IsExponent, exponent_text, fraction_text, fraction_digits, Numeral, numeral_text, IsProper, IsValue, StandsFor}
+use Rattle.rs_whole.specs.Numerals.{Exponent, IsExponent, exponent_text, fraction_text, fraction_digits, Numeral}
+use Rattle.rs_whole.specs.Numerals.{numeral_text, IsProper, IsValue, StandsFor}
 use Rattle.rs_whole.specs.declared.shifts.Shift.{Shift}
 use Rattle.rs_whole.specs.Shifts.{shift_of, rises_by, falls_by}
 use Rattle.rs_whole.proofs.Places.{all-append}

@@ -1,5 +1,7 @@
 -- Powers of integers.
-use Rattle.std.proofs.Common.{◌≡◌, ◌≢◌, ℕ, suc, zero, ◌+◌, ◌*◌, ◌%◌, ◌^◌, ◌<◌, ◌≤◌, Bool, true, false, cond, ◌==◌, nat_lt, ℤ, pos, negsuc, neg_ℤ, ◌*ℤ◌, unsigned_abs, ◌⊎◌, refl, sym, ap, ◌∙◌, subst, inl, inr, arith, Option, Some, None, Result, Ok, Err, FitsSigned, w64, to_z, of_z}
+use Rattle.std.proofs.Common.{◌≡◌, ◌≢◌, ℕ, suc, zero, ◌+◌, ◌*◌, ◌%◌, ◌^◌, ◌<◌, ◌≤◌, Bool, true, false, cond, ◌==◌}
+use Rattle.std.proofs.Common.{nat_lt, ℤ, pos, negsuc, neg_ℤ, ◌*ℤ◌, unsigned_abs, ◌⊎◌, refl, sym, ap, ◌∙◌, subst, inl}
+use Rattle.std.proofs.Common.{inr, arith, Option, Some, None, Result, Ok, Err, FitsSigned, w64, to_z, of_z}
 use Rattle.std.specs.Option.{SomeIff, ok_or}
 use Rattle.std.specs.Int.{int_pow}
 use Rattle.std.specs.Int.RustNames.{int_lt}

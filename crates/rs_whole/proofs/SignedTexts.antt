@@ -1,5 +1,6 @@
 -- Numerals behind a sign.
-use Rattle.std.proofs.Common.{◌≡◌, ℕ, ◌<◌, ℤ, pos, neg_ℤ, unsigned_abs, Some, None, Result, Ok, Err, IsErr, MatchResult, List, [], ◌∷◌, ◌++◌, refl, sym, ap, subst, ◌∙◌, arith, ◌⊎◌, inl, inr}
+use Rattle.std.proofs.Common.{◌≡◌, ℕ, ◌<◌, ℤ, pos, neg_ℤ, unsigned_abs, Some, None, Result, Ok, Err, IsErr}
+use Rattle.std.proofs.Common.{MatchResult, List, [], ◌∷◌, ◌++◌, refl, sym, ap, subst, ◌∙◌, arith, ◌⊎◌, inl, inr}
 use Rattle.std.specs.Char.{digit_value}
 use Rattle.rs_whole.specs.Wholes.{IsWhole, Computes}
 use Rattle.rs_whole.specs.Numerals.{Sign, sign_text, Numeral, numeral_text, IsProper, StandsFor, SignedStandsFor}

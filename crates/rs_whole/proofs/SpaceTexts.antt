@@ -1,10 +1,12 @@
 -- Texts with white space round them.
-use Rattle.std.proofs.Common.{◌≡◌, ℕ, ◌<◌, ◌≤◌, false, Option, Some, None, List, [], ◌∷◌, ◌++◌, length, refl, sym, ap, subst, ◌∙◌, arith, ◌⊎◌, inl, inr, append_assoc}
+use Rattle.std.proofs.Common.{◌≡◌, ℕ, ◌<◌, ◌≤◌, false, Option, Some, None, List, [], ◌∷◌, ◌++◌, length, refl, sym, ap}
+use Rattle.std.proofs.Common.{subst, ◌∙◌, arith, ◌⊎◌, inl, inr, append_assoc}
 use Rattle.std.specs.Char.{digit_value}
 use Rattle.std.specs.List.{AllByRecursion}
 use Rattle.std.specs.Str.Parse.{AllDigits}
 use Rattle.std.proofs.lemmas.Bool.Decides.{nat_tests}
-use Rattle.rs_whole.specs.Numerals.{is_space, AreSpaces, Sign, sign_text, Exponent, IsExponent, exponent_text, fraction_text, fraction_digits, Numeral, numeral_text, IsProper}
+use Rattle.rs_whole.specs.Numerals.{is_space, AreSpaces, Sign, sign_text, Exponent, IsExponent, exponent_text}
+use Rattle.rs_whole.specs.Numerals.{fraction_text, fraction_digits, Numeral, numeral_text, IsProper}
 use Rattle.rs_whole.specs.Spaces.{NoSpaceFirst, NoSpaceLast}
 use Rattle.rs_whole.proofs.Heads.{same_head, same_tail}
 

@@ -1,5 +1,6 @@
 -- Arithmetic on whole numbers of at most 53 bits, over the integers (Lua 5.1 manual, 2.5.1).
-use Rattle.std.specs.Prelude.{◌≡◌, ◌≢◌, suc, ◌^◌, ◌≤◌, ◌⊎◌, ℤ, pos, negsuc, ◌+ℤ◌, ◌-ℤ◌, ◌*ℤ◌, ◌≤ℤ◌, ◌<ℤ◌, unsigned_abs, Result, MatchResult}
+use Rattle.std.specs.Prelude.{◌≡◌, ◌≢◌, suc, ◌^◌, ◌≤◌, ◌⊎◌, ℤ, pos, negsuc, ◌+ℤ◌, ◌-ℤ◌, ◌*ℤ◌, ◌≤ℤ◌, ◌<ℤ◌}
+use Rattle.std.specs.Prelude.{unsigned_abs, Result, MatchResult}
 use Rattle.std.specs.Int.{int_pow}
 
 -- of magnitude at most 2^53

@@ -1,7 +1,11 @@
-ghost use Rattle.std.specs.Prelude.{◌≡◌, ℕ, ℤ, pos, ◌≤◌, ◌<◌, ◌+◌, ◌^◌, ◌++◌, [], ◌∷◌, List, Option, length, not, position, IfSome, OnSome, IsSomeAnd, OnOk, IsErr, Ok, MatchOption, MatchResult, neg_ℤ};
+ghost use Rattle.std.specs.Prelude.{◌≡◌, ℕ, ℤ, pos, ◌≤◌, ◌<◌, ◌+◌, ◌^◌, ◌++◌, [], ◌∷◌, List, Option, length, not};
+ghost use Rattle.std.specs.Prelude.{position, IfSome, OnSome, IsSomeAnd, OnOk, IsErr, Ok, MatchOption, MatchResult};
+ghost use Rattle.std.specs.Prelude.{neg_ℤ};
 ghost use Rattle.std.specs.Str.Parse.{AllDigits, IsNumeral as AreDigits, digits_value};
 ghost use Rattle.rs_whole.specs.Wholes.{Computes};
-ghost use Rattle.rs_whole.specs.Numerals.{Numeral, Exponent, Sign, Holds, IsProper, StandsFor, SignedStandsFor, AreSpaces, numeral_text, sign_text, fraction_text, fraction_digits, is_space};
+ghost use Rattle.rs_whole.specs.Numerals.{Numeral, Exponent, Sign, Holds, IsProper, StandsFor, SignedStandsFor};
+ghost use Rattle.rs_whole.specs.Numerals.{AreSpaces, numeral_text, sign_text, fraction_text, fraction_digits};
+ghost use Rattle.rs_whole.specs.Numerals.{is_space};
 ghost use Rattle.rs_whole.specs.Digits.{NoFractionFirst};
 ghost use Rattle.rs_whole.specs.Spaces.{NoSpaceFirst, NoSpaceLast};
 

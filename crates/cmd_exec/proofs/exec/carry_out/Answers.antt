@@ -11,8 +11,11 @@ returns-in-Some-reason-clause-did c =
     let world : World = record { store = c.args.space.now; time = c.args.ctx.now.time; draws = c.args.draws.now } in
     let found : row_named c.in-Some.name.now ≡ Some c.in-Some-find.row = cc in
     did_refused _ _ _ c.in-Some-reason.why _
-    (given_named world c.args.mode c.args.words.now c.in-Some.name.now c.in-Some-find.row (sym c.in-Some.ensures.value) found
-    ∙ ap (λ w. unless_refused w (row_outcome world c.in-Some-find.row.id c.args.words.now)) (sym c.in-Some-reason.ensures)) c.refuse-in-Some-reason.ensures
+    (given_named world c.args.mode c.args.words.now c.in-Some.name.now c.in-Some-find.row
+    (sym c.in-Some.ensures.value) found
+    ∙ ap (λ w. unless_refused w (row_outcome world c.in-Some-find.row.id c.args.words.now))
+    (sym c.in-Some-reason.ensures)) c.refuse-in-Some-reason.ensures
 
 pub run-requires : goal.run-requires
-run-requires c = words_short c.args.mode c.in-Some-find.row c.args.words.now (sym c.reason.ensures ∙ c.in_default-reason.is)
+run-requires c = words_short c.args.mode c.in-Some-find.row c.args.words.now (sym c.reason.ensures
+    ∙ c.in_default-reason.is)

@@ -21,4 +21,5 @@ pub returns-clause-records : goal.returns-clause-records
 returns-clause-records c = exec_within c.string_records_are_within.ensures c.key_records_are_within.ensures
 
 pub returns-clause-none : goal.returns-clause-none
-returns-clause-none c = exec_none c.settled_records_lead_to_the_same_store.ensures.same c.settled_records_lead_to_the_same_store.ensures.none
+returns-clause-none c = exec_none c.settled_records_lead_to_the_same_store.ensures.same
+    c.settled_records_lead_to_the_same_store.ensures.none

@@ -13,4 +13,5 @@ carry_out-requires c =
     let fits : FitsSigned w64 at = search rules in
     subst IsRecord (sym c.expire_at.ensures)
     (subst (λ z. IsRecord (expire_at key c.args.now z)) (sym (to_z-of_z w64 at fits))
-    (expiring-within c.args.command c.args.kind c.args.now _ at key (subst IsShort (sym c.in_ok-clone.ensures.cases) c.requires) (sym c.expire_time.ensures ∙ c.in_ok-at.was)).0)
+    (expiring-within c.args.command c.args.kind c.args.now _ at key
+    (subst IsShort (sym c.in_ok-clone.ensures.cases) c.requires) (sym c.expire_time.ensures ∙ c.in_ok-at.was)).0)

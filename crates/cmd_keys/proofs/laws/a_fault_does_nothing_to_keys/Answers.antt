@@ -13,4 +13,5 @@ any = record { integer = tt; expire = λ id. tt; absent = tt; index = tt }
 
 pub returns : goal.returns
 returns c = λ store now draws id words text.
-    ends-nothing Any (key_row store now draws id words) text (ends-key_row Any any words store now draws id (λ place there why e. tt) (λ is word e. tt) (λ other. tt))
+    ends-nothing Any (key_row store now draws id words) text
+    (ends-key_row Any any words store now draws id (λ place there why e. tt) (λ is word e. tt) (λ other. tt))

@@ -26,7 +26,8 @@ flush-alone FlushAll is = refl
 flush-alone FlushDb is = refl
 flush-alone _ is = absurd is
 
-mode-read : (id : CmdId) (words : List (List ℕ)) → length words ≡ (command id).least → IsFlush id → (word : List ℕ) → slice_get words 1 ≡ Some word → IsNoSyntax Syntax
+mode-read : (id : CmdId) (words : List (List ℕ)) → length words ≡ (command id).least → IsFlush id → (word : List ℕ)
+    → slice_get words 1 ≡ Some word → IsNoSyntax Syntax
 mode-read id words fewest is word e =
     let alone = flush-alone id is in
     let none : slice_get words 1 ≡ None = slice_get_past words 1 (omega arith) in
@@ -36,4 +37,5 @@ pub returns : goal.returns
 returns c = λ store now draws id words is fewest.
     ends-no_syntax (key_row store now draws id words)
     (ends-key_row IsNoSyntax others words store now draws id
-    (λ place there why e. absurd (word_at-there words place why (omega arith) e)) (mode-read id words fewest) (λ other. absurd (true≢false (sym is ∙ other))))
+    (λ place there why e. absurd (word_at-there words place why (omega arith) e)) (mode-read id words fewest)
+    (λ other. absurd (true≢false (sym is ∙ other))))

@@ -12,7 +12,8 @@ use Rattle.cmd_keys.specs.Rows.{changing_row, key_row}
 use Rattle.cmd_keys.specs.Laws.{IsFlush, Empties}
 use Rattle.cmd_keys.proofs.laws.flush_removes_every_key.Goals as goal
 
-flush-row : (store : Store) (now draws : ℕ) (id : CmdId) (words : List (List ℕ)) → IsFlush id → key_row store now draws id words ≡ flush_row (slice_get words 1)
+flush-row : (store : Store) (now draws : ℕ) (id : CmdId) (words : List (List ℕ)) → IsFlush id
+    → key_row store now draws id words ≡ flush_row (slice_get words 1)
 unfolding key_row changing_row
 flush-row store now draws FlushAll words is = refl
 flush-row store now draws FlushDb words is = refl
@@ -27,7 +28,8 @@ empties store = record {
 }
 
 pub returns-clause-alone : goal.returns-clause-alone
-returns-clause-alone c = λ store now draws id name is. subst (λ (o : Outcome). Empties store o) (sym (flush-row store now draws id (name ∷ []) is)) (empties store)
+returns-clause-alone c = λ store now draws id name is.
+    subst (λ (o : Outcome). Empties store o) (sym (flush-row store now draws id (name ∷ []) is)) (empties store)
 
 pub returns-clause-with_mode : goal.returns-clause-with_mode
 returns-clause-with_mode c = λ store now draws id name mode is named.
@@ -36,4 +38,5 @@ returns-clause-with_mode c = λ store now draws id name mode is named.
 
 pub returns-clause-another_word : goal.returns-clause-another_word
 returns-clause-another_word c = λ store now draws id name mode is other.
-    flush-row store now draws id (name ∷ mode ∷ []) is ∙ ap (λ b. cond b (does ok (effect.FlushAll ∷ [])) (refused Syntax)) other
+    flush-row store now draws id (name ∷ mode ∷ []) is
+    ∙ ap (λ b. cond b (does ok (effect.FlushAll ∷ [])) (refused Syntax)) other

@@ -13,8 +13,11 @@ loop-key-preserved c =
     let i = c.loop-key.key-index in
     let key = c.key-item.result in
     let split : drop i items ≡ key ∷ drop (i + 1) items = drop_item items i key c.loop-key-test.true c.key-item.is in (
-      removes_more c.args.space.now c.args.effects.now items c.loop-key.space c.loop-key.effects c.loop-key.gone key (drop (i + 1) items) c.remove.new.space c.remove.new.effects c.in_ok-gone.field-0
-          (subst (Removes c.args.space.now c.args.effects.now items c.loop-key.space c.loop-key.effects c.loop-key.gone) split c.loop-key.invariant.0) c.in_ok-gone.ensures.store c.in_ok-gone.ensures.effects c.in_ok-gone.ensures.count,
+      removes_more c.args.space.now c.args.effects.now items c.loop-key.space c.loop-key.effects c.loop-key.gone key
+          (drop (i + 1) items) c.remove.new.space c.remove.new.effects c.in_ok-gone.field-0
+          (subst (Removes c.args.space.now c.args.effects.now items c.loop-key.space c.loop-key.effects
+          c.loop-key.gone) split c.loop-key.invariant.0) c.in_ok-gone.ensures.store c.in_ok-gone.ensures.effects
+          c.in_ok-gone.ensures.count,
       omega (arith, c.in_ok-gone.ensures.one),
       (subst (AllByRecursion IsShort) split c.loop-key.invariant.2).1,
     )
@@ -22,6 +25,10 @@ loop-key-preserved c =
 pub returns : goal.returns
 returns c =
     let items = c.behind_name-key-items.result.now in
-    subst (λ keys. IfAnswered c.count.result (λ reply. Did c.args.space.now (del_row c.args.space.now keys) reply c.loop-key.space c.args.effects.now c.loop-key.effects 0)) c.behind_name-key-items.ensures
-    (removes_all c.count.result c.args.space.now c.args.effects.now items c.loop-key.space c.loop-key.effects c.loop-key.gone c.count.ensures
-    (subst (Removes c.args.space.now c.args.effects.now items c.loop-key.space c.loop-key.effects c.loop-key.gone) (drop_all c.loop-key.key-index items c.loop-key-test.false) c.loop-key.invariant.0))
+    subst (λ keys. IfAnswered c.count.result
+    (λ reply. Did c.args.space.now (del_row c.args.space.now keys) reply c.loop-key.space c.args.effects.now
+    c.loop-key.effects 0)) c.behind_name-key-items.ensures
+    (removes_all c.count.result c.args.space.now c.args.effects.now items c.loop-key.space c.loop-key.effects
+    c.loop-key.gone c.count.ensures
+    (subst (Removes c.args.space.now c.args.effects.now items c.loop-key.space c.loop-key.effects c.loop-key.gone)
+    (drop_all c.loop-key.key-index items c.loop-key-test.false) c.loop-key.invariant.0))

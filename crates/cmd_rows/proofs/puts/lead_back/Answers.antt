@@ -10,4 +10,5 @@ apply_all-requires c = sets-records c.args.sets.now c.requires
 pub returns : goal.returns
 returns c =
     through c.all_agree.ensures
-    (agree-exactly c.args.space.now c.apply_all.new.space c.args.sets.now c.requires (c.in_ok-apply_all.ensures ∙ ap (λ store. applied store c.args.sets.now) c.new-last.ensures))
+    (agree-exactly c.args.space.now c.apply_all.new.space c.args.sets.now c.requires (c.in_ok-apply_all.ensures
+    ∙ ap (λ store. applied store c.args.sets.now) c.new-last.ensures))

@@ -11,4 +11,6 @@ returns-in_err-change c =
     let is : getex_change c.args.now c.args.words.now ≡ Err why = sym c.in_err-change.ensures.value in
     refused-answered c.from_residual.result why _ c.from_residual.ensures.1
     (did-refused c.args.space.now _ why c.args.effects.now
-    (ap (λ f. with_found f (λ change. with_string c.args.space.now c.args.key.now (λ text. does (bulk_or_null text) (change_effects c.args.now c.args.key.now change)))) is))
+    (ap (λ f. with_found f (λ change.
+    with_string c.args.space.now c.args.key.now
+    (λ text. does (bulk_or_null text) (change_effects c.args.now c.args.key.now change)))) is))

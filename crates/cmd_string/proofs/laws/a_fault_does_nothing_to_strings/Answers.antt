@@ -13,4 +13,6 @@ any = record { integer = tt; expire = λ id. tt; kind = tt; overflow = tt; offse
 
 pub returns : goal.returns
 returns c = λ store now id words text.
-    ends-nothing Any (string_row store now id words) text (ends-string_row Any any words store now id (λ place there why e. tt) (λ is why e. tt) (λ is why e. tt) (λ other. tt))
+    ends-nothing Any (string_row store now id words) text
+    (ends-string_row Any any words store now id (λ place there why e. tt) (λ is why e. tt) (λ is why e. tt)
+    (λ other. tt))

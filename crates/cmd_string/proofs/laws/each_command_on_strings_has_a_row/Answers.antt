@@ -3,7 +3,8 @@ use Rattle.std.proofs.lemmas.List.{drop_all}
 use Rattle.cmd_args.specs.declared.commands.CmdId.{CmdId}
 use Rattle.cmd_args.specs.declared.commands.CmdId.TheVariants.{Set, GetEx}
 use Rattle.cmd_args.specs.declared.refusal.Refusal.{Refusal}
-use Rattle.cmd_args.specs.declared.refusal.Refusal.TheVariants.{NotInteger, ExpireTime, WrongType, Overflow, Offset, TooLong}
+use Rattle.cmd_args.specs.declared.refusal.Refusal.TheVariants.{NotInteger, ExpireTime, WrongType, Overflow, Offset}
+use Rattle.cmd_args.specs.declared.refusal.Refusal.TheVariants.{TooLong}
 use Rattle.cmd_args.specs.Table.{command}
 use Rattle.cmd_rows.proofs.Faults.{IsNoSyntax, no_syntax, ends-no_syntax}
 use Rattle.cmd_rows.proofs.WordPlaces.{word_at-there}
@@ -23,7 +24,8 @@ others = record {
 }
 
 -- with the fewest words there are no options
-set-read : (id : CmdId) (words : List (List ℕ)) → length words ≡ (command id).least → id ≡ Set → (why : Refusal) → set_options (drop 3 words) ≡ Err why → IsNoSyntax why
+set-read : (id : CmdId) (words : List (List ℕ)) → length words ≡ (command id).least → id ≡ Set → (why : Refusal)
+    → set_options (drop 3 words) ≡ Err why → IsNoSyntax why
 unfolding command
 set-read id words fewest is why e =
     let three : length words ≡ 3 = fewest ∙ ap (λ i. (command i).least) is in
@@ -31,7 +33,8 @@ set-read id words fewest is why e =
     let read : set_options [] ≡ Err why = sym (ap set_options none) ∙ e in
     absurd (cc)
 
-getex-read : (now : ℕ) (id : CmdId) (words : List (List ℕ)) → length words ≡ (command id).least → id ≡ GetEx → (why : Refusal) → getex_change now (drop 2 words) ≡ Err why → IsNoSyntax why
+getex-read : (now : ℕ) (id : CmdId) (words : List (List ℕ)) → length words ≡ (command id).least → id ≡ GetEx
+    → (why : Refusal) → getex_change now (drop 2 words) ≡ Err why → IsNoSyntax why
 unfolding command
 getex-read now id words fewest is why e =
     let two : length words ≡ 2 = fewest ∙ ap (λ i. (command i).least) is in
@@ -43,4 +46,5 @@ pub returns : goal.returns
 returns c = λ store now id words is fewest.
     ends-no_syntax (string_row store now id words)
     (ends-string_row IsNoSyntax others words store now id
-    (λ place there why e. absurd (word_at-there words place why (omega arith) e)) (set-read id words fewest) (getex-read now id words fewest) (λ other. absurd (true≢false (sym is ∙ other))))
+    (λ place there why e. absurd (word_at-there words place why (omega arith) e)) (set-read id words fewest)
+    (getex-read now id words fewest) (λ other. absurd (true≢false (sym is ∙ other))))

@@ -9,4 +9,5 @@ use Rattle.cmd_string.proofs.laws.other_keys_stay.Goals as goal
 pub returns : goal.returns
 returns c = λ store now id words other none.
     spared other store (string_row store now id words).records
-    (each-string_row (λ key. other ≢ key) (λ value. Unit {0}) (Spares other) now (allows-others now other) words (any_values words) store id (apart-all other (keys_named id words) none))
+    (each-string_row (λ key. other ≢ key) (λ value. Unit {0}) (Spares other) now (allows-others now other) words
+    (any_values words) store id (apart-all other (keys_named id words) none))

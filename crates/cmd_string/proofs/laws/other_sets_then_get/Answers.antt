@@ -10,7 +10,8 @@ use Rattle.cmd_string.proofs.laws.other_sets_then_get.Goals as goal
 
 pub returns-clause-setnx : goal.returns-clause-setnx
 returns-clause-setnx c = λ store key value absent.
-    subst (λ b. Gives (after store (cond b (answers (Int (pos 0))) (does (Int (pos 1)) (Set key value ∷ [])))) key value None) (sym absent) (gives-put store key value None)
+    subst (λ b. Gives (after store (cond b (answers (Int (pos 0))) (does (Int (pos 1)) (Set key value ∷ [])))) key
+    value None) (sym absent) (gives-put store key value None)
 
 pub returns-clause-getset : goal.returns-clause-getset
 returns-clause-getset c = getset-given

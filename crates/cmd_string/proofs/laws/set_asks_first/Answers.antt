@@ -18,7 +18,8 @@ returns-clause-nx c = λ store now key value there.
 
 pub returns-clause-nx_writes : goal.returns-clause-nx_writes
 returns-clause-nx_writes c = λ store now key value absent.
-    options-plain store now key value (codes "NX" ∷ []) _ None (record { options_are = refl; is_asked_for = ap not absent; old_is = refl }) refl
+    options-plain store now key value (codes "NX" ∷ []) _ None
+    (record { options_are = refl; is_asked_for = ap not absent; old_is = refl }) refl
 
 pub returns-clause-xx : goal.returns-clause-xx
 unfolding asked
@@ -27,8 +28,10 @@ returns-clause-xx c = λ store now key value absent.
 
 pub returns-clause-xx_writes : goal.returns-clause-xx_writes
 returns-clause-xx_writes c = λ store now key value there.
-    options-plain store now key value (codes "XX" ∷ []) _ None (record { options_are = refl; is_asked_for = there; old_is = refl }) refl
+    options-plain store now key value (codes "XX" ∷ []) _ None
+    (record { options_are = refl; is_asked_for = there; old_is = refl }) refl
 
 pub returns-clause-get : goal.returns-clause-get
 returns-clause-get c = λ store now key value old is.
-    options-plain store now key value (codes "GET" ∷ []) _ old (record { options_are = refl; is_asked_for = refl; old_is = is }) refl
+    options-plain store now key value (codes "GET" ∷ []) _ old
+    (record { options_are = refl; is_asked_for = refl; old_is = is }) refl

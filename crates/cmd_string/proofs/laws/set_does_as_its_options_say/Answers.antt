@@ -8,10 +8,12 @@ pub returns-clause-keepttl : goal.returns-clause-keepttl
 returns-clause-keepttl c = options-keeping
 
 pub returns-clause-until : goal.returns-clause-until
-returns-clause-until c = λ store now key value words options old kind n at writes. options-until store now key value words options old writes kind n at
+returns-clause-until c = λ store now key value words options old kind n at writes.
+    options-until store now key value words options old writes kind n at
 
 pub returns-clause-past : goal.returns-clause-past
-returns-clause-past c = λ store now key value words options old kind n at writes. options-past store now key value words options old writes kind n at
+returns-clause-past c = λ store now key value words options old kind n at writes.
+    options-past store now key value words options old writes kind n at
 
 pub returns-clause-skips : goal.returns-clause-skips
 returns-clause-skips c = options-skip

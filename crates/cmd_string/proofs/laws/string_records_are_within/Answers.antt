@@ -7,4 +7,5 @@ use Rattle.cmd_string.proofs.laws.string_records_are_within.Goals as goal
 
 pub returns : goal.returns
 returns c = λ store now id words within timely short.
-    each-string_row IsShort IsShort (IsTimelyWithin now) now (allows-within now) words short store id (all-keys_named IsShort id words short)
+    each-string_row IsShort IsShort (IsTimelyWithin now) now (allows-within now) words short store id
+    (all-keys_named IsShort id words short)

@@ -7,15 +7,19 @@ use Rattle.cmd_string.proofs.writing.has_any.Goals as goal
 pub returns-then-is_there : goal.returns-then-is_there
 returns-then-is_there c =
     let more : c.loop-place.place + 1 < length c.args.words.now = omega arith in
-    let there : finite.contains_key c.args.space.now c.index-words-place.result ≡ true = sym c.is_there.ensures ∙ c.if-is_there.true in
-    sym (c.loop-place.invariant ∙ any-step c.args.space.now c.args.words.now c.loop-place.place c.index-words-place.result more c.index-words-place.is
+    let there : finite.contains_key c.args.space.now c.index-words-place.result ≡ true = sym c.is_there.ensures
+    ∙ c.if-is_there.true in
+    sym (c.loop-place.invariant ∙ any-step c.args.space.now c.args.words.now c.loop-place.place
+    c.index-words-place.result more c.index-words-place.is
     ∙ ap (λ b. b || has_any c.args.space.now (drop (c.loop-place.place + 2) c.args.words.now)) there)
 
 pub loop-place-preserved : goal.loop-place-preserved
 loop-place-preserved c =
     let more : c.loop-place.place + 1 < length c.args.words.now = omega arith in
-    let there : finite.contains_key c.args.space.now c.index-words-place.result ≡ false = sym c.is_there.ensures ∙ c.if-is_there.false in
-    c.loop-place.invariant ∙ any-step c.args.space.now c.args.words.now c.loop-place.place c.index-words-place.result more c.index-words-place.is
+    let there : finite.contains_key c.args.space.now c.index-words-place.result ≡ false = sym c.is_there.ensures
+    ∙ c.if-is_there.false in
+    c.loop-place.invariant ∙ any-step c.args.space.now c.args.words.now c.loop-place.place c.index-words-place.result
+    more c.index-words-place.is
     ∙ ap (λ b. b || has_any c.args.space.now (drop (c.loop-place.place + 2) c.args.words.now)) there
 
 pub returns : goal.returns

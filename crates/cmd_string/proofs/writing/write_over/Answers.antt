@@ -13,4 +13,5 @@ returns-then-offset-gt-MAX_TEXT_BYTES c =
     let after = subst (λ z. lt_z z (pos 0) ≡ false) same c.if-at-lt0.false in
     let far = subst (λ z. 16777216 < nat_abs z) same c.if-offset-gt-MAX_TEXT_BYTES.true in
     let some : c.args.value.now ≢ [] = λ none. true≢false (sym (c.is_empty.ensures.1 none) ∙ c.if-is_empty.false) in
-    did-refused c.args.space.now _ TooLong c.args.effects.now (range-far c.args.key.now c.args.old c.args.value.now c.args.at after far some)
+    did-refused c.args.space.now _ TooLong c.args.effects.now
+    (range-far c.args.key.now c.args.old c.args.value.now c.args.at after far some)

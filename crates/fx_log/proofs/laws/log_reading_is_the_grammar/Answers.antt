@@ -11,10 +11,12 @@ pub returns-clause-one_list : goal.returns-clause-one_list
 returns-clause-one_list c = one-groups c.reading_is_the_grammar.ensures.one_sequence
 
 pub returns-clause-one_bad : goal.returns-clause-one_bad
-returns-clause-one_bad c = one-bad c.reading_is_the_grammar.ensures.one_sequence c.reading_is_the_grammar.ensures.one_bad
+returns-clause-one_bad c = one-bad c.reading_is_the_grammar.ensures.one_sequence
+    c.reading_is_the_grammar.ensures.one_bad
 
 pub returns-clause-not_both : goal.returns-clause-not_both
-returns-clause-not_both c = log-good c.reading_is_the_grammar.ensures.one_sequence c.reading_is_the_grammar.ensures.not_both
+returns-clause-not_both c = log-good c.reading_is_the_grammar.ensures.one_sequence
+    c.reading_is_the_grammar.ensures.not_both
 
 pub returns-clause-stays : goal.returns-clause-stays
 returns-clause-stays c = λ text more place kind bad.

@@ -1,4 +1,5 @@
-use Rattle.ks_value.proofs.FieldLaws.{value_of-remove_field, value_of-remove_other, remove_field-filter, set_field-removed, HasDistinctFields-remove_field}
+use Rattle.ks_value.proofs.FieldLaws.{value_of-remove_field, value_of-remove_other, remove_field-filter}
+use Rattle.ks_value.proofs.FieldLaws.{set_field-removed, HasDistinctFields-remove_field}
 use Rattle.ks_value.proofs.laws.a_field_that_is_removed_leaves_alone.Goals as goal
 
 pub returns-clause-gone : goal.returns-clause-gone

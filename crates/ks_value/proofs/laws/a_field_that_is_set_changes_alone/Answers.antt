@@ -1,4 +1,5 @@
-use Rattle.ks_value.proofs.FieldLaws.{value_of-set_field, value_of-set_other, fields-set_present, set_field-absent, HasDistinctFields-set_field}
+use Rattle.ks_value.proofs.FieldLaws.{value_of-set_field, value_of-set_other, fields-set_present, set_field-absent}
+use Rattle.ks_value.proofs.FieldLaws.{HasDistinctFields-set_field}
 use Rattle.ks_value.proofs.laws.a_field_that_is_set_changes_alone.Goals as goal
 
 pub returns-clause-here : goal.returns-clause-here

@@ -1,4 +1,6 @@
-use Rattle.ks_value.proofs.Sets.{is_member-Contains, is_member-inserted, is_member-insert_other, is_member-removed, is_member-remove_other, IsAscending-insert_member, IsAscending-remove_member, same-members}
+use Rattle.ks_value.proofs.Sets.{is_member-Contains, is_member-inserted, is_member-insert_other, is_member-removed}
+use Rattle.ks_value.proofs.Sets.{is_member-remove_other, IsAscending-insert_member, IsAscending-remove_member}
+use Rattle.ks_value.proofs.Sets.{same-members}
 use Rattle.ks_value.proofs.laws.a_set_changes_by_one_member.Goals as goal
 
 pub returns-clause-member : goal.returns-clause-member

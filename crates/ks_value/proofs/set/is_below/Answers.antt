@@ -6,4 +6,5 @@ use Rattle.ks_value.proofs.set.is_below.Goals as goal
 
 pub returns : goal.returns
 returns c =
-    c.lt.ensures ∙ ap (is_some_and is_lt) (lists_agrees (λ x y. refl) c.as_slice.result.now c.args.other.now) ∙ ap (λ member. is_lt (bytes_cmp member c.args.other.now)) c.as_slice.ensures
+    c.lt.ensures ∙ ap (is_some_and is_lt) (lists_agrees (λ x y. refl) c.as_slice.result.now c.args.other.now)
+    ∙ ap (λ member. is_lt (bytes_cmp member c.args.other.now)) c.as_slice.ensures

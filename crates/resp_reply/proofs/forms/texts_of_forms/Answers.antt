@@ -4,7 +4,8 @@ use Rattle.std.proofs.lemmas.List.Folds.{flat_map-map}
 use Rattle.resp_reply.specs.declared.reply.Reply.{Reply}
 use Rattle.resp_reply.specs.declared.reply.Reply.TheOpen.{Reply-F}
 use Rattle.resp_reply.specs.declared.reply.Reply.TheFolds.{fold-roll-Reply}
-use Rattle.resp_reply.specs.declared.reply.Reply.TheVariants.{rolls-Status, rolls-Fault, rolls-Int, rolls-Bulk, rolls-NullBulk, rolls-NullArray}
+use Rattle.resp_reply.specs.declared.reply.Reply.TheVariants.{rolls-Status, rolls-Fault, rolls-Int, rolls-Bulk}
+use Rattle.resp_reply.specs.declared.reply.Reply.TheVariants.{rolls-NullBulk, rolls-NullArray}
 use Rattle.resp_reply.specs.Replies.{line, array_text, reply_step, reply_text}
 use Rattle.resp_reply.proofs.forms.texts_of_forms.Goals as goal
 

@@ -2,7 +2,8 @@ use Rattle.std.proofs.Common.{◌≡◌, ◌<◌, [], Some, ◌∙◌, sym, ap, 
 use Rattle.std.proofs.lemmas.Bool.Decides.{nat_tests}
 use Rattle.std.proofs.lemmas.Grind.{common_steps}
 use Rattle.rs_base.specs.Escape.{spelling}
-use Rattle.rs_base.proofs.Spellings.{HasRead-start, HasRead-more, HasRead-stuck, HasRead-all, HasRead-spelling, spelling-by_bytes, no_end}
+use Rattle.rs_base.proofs.Spellings.{HasRead-start, HasRead-more, HasRead-stuck, HasRead-all, HasRead-spelling}
+use Rattle.rs_base.proofs.Spellings.{spelling-by_bytes, no_end}
 use Rattle.rs_base.proofs.escapes.unescape.Goals as goal
 
 pub loop-rest-init : goal.loop-rest-init

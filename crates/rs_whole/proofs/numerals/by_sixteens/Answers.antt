@@ -2,7 +2,8 @@ use Rattle.std.proofs.Common.{ap, length, arith}
 use Rattle.std.proofs.lemmas.Bool.Decides.{nat_tests}
 use Rattle.rs_whole.proofs.NumeralTexts.{sixteens_read}
 use Rattle.rs_whole.proofs.numerals.by_sixteens.Goals as goal
-use Rattle.rs_whole.proofs.numerals.by_sixteens.Goals.{then-is_empty-via-then-is_empty, then-is_empty-via-else-is_empty+then-not-is_empty}
+use Rattle.rs_whole.proofs.numerals.by_sixteens.Goals.{then-is_empty-via-then-is_empty}
+use Rattle.rs_whole.proofs.numerals.by_sixteens.Goals.{then-is_empty-via-else-is_empty+then-not-is_empty}
 
 pub returns-then-is_empty-clause-only : goal.returns-then-is_empty-clause-only
 returns-then-is_empty-clause-only c = λ are.

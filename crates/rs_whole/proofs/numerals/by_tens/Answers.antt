@@ -3,7 +3,8 @@ use Rattle.std.proofs.lemmas.Bool.Decides.{nat_tests}
 use Rattle.std.proofs.lemmas.Grind.{common_steps}
 use Rattle.rs_whole.proofs.NumeralTexts.{no_digits_none, no_shift_none, read_value, read_numeral}
 use Rattle.rs_whole.proofs.numerals.by_tens.Goals as goal
-use Rattle.rs_whole.proofs.numerals.by_tens.Goals.{else-is_empty-via-then-is_empty+else-is_empty-2, else-is_empty-via-else-is_empty}
+use Rattle.rs_whole.proofs.numerals.by_tens.Goals.{else-is_empty-via-then-is_empty+else-is_empty-2}
+use Rattle.rs_whole.proofs.numerals.by_tens.Goals.{else-is_empty-via-else-is_empty}
 
 pub returns-then-is_empty-2-clause-only : goal.returns-then-is_empty-2-clause-only
 returns-then-is_empty-2-clause-only c =

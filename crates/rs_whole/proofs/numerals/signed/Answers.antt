@@ -2,7 +2,8 @@ use Rattle.std.proofs.Common.{◌≡◌, ◌∷◌, sym, ap, ◌∙◌}
 use Rattle.rs_whole.proofs.SignedTexts.{behind_minus, behind_plus, negated_value}
 use Rattle.rs_whole.proofs.numerals.signed.Goals as goal
 
-pub returns-in_err-literal-in-Some-eq45-default-clause-only : goal.returns-in_err-literal-in-Some-eq45-default-clause-only
+pub returns-in_err-literal-in-Some-eq45-default-clause-only :
+    goal.returns-in_err-literal-in-Some-eq45-default-clause-only
 returns-in_err-literal-in-Some-eq45-default-clause-only c = λ sign numeral is text.
     let at : 45 ∷ c.in-Some-eq45-default.rest.now ≡ c.args.text.now =
     ap (λ b. b ∷ c.in-Some-eq45-default.rest.now) (sym c.in-Some-eq45-default.field-0-0-test)

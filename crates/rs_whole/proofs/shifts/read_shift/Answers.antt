@@ -1,7 +1,8 @@
 use Rattle.std.proofs.Common.{◌≡◌, sym, ◌∙◌, inl, inr, ◌⊎◌, arith}
 use Rattle.rs_whole.proofs.ShiftTexts.{shift_found, shift_only}
 use Rattle.rs_whole.proofs.shifts.read_shift.Goals as goal
-use Rattle.rs_whole.proofs.shifts.read_shift.Goals.{else-letter-ne101-via-then-letter-ne101+else-letter-ne69, else-letter-ne101-via-else-letter-ne101}
+use Rattle.rs_whole.proofs.shifts.read_shift.Goals.{else-letter-ne101-via-then-letter-ne101+else-letter-ne69}
+use Rattle.rs_whole.proofs.shifts.read_shift.Goals.{else-letter-ne101-via-else-letter-ne101}
 
 pub returns-clause-found : goal.returns-clause-found
 returns-clause-found c =

@@ -6,7 +6,8 @@ use Rattle.fx_log.proofs.reader.LogReader.go_on.Goals as goal
 pub returns-in-Ok-clause-goes : goal.returns-in-Ok-clause-goes
 returns-in-Ok-clause-goes c = λ text stands.
     IfOk-weaker _ _ _
-    (λ groups h. goes-on c.reading_is_the_grammar.ensures.one_sequence c.reading_is_the_grammar.ensures.not_both text _ _ _ _
+    (λ groups h. goes-on c.reading_is_the_grammar.ensures.one_sequence c.reading_is_the_grammar.ensures.not_both text
+    _ _ _ _
     _ _ groups _ stands (c.in-Ok.ensures.goes text stands.0) h.1 h.2)
     c.take.ensures.ok
 
@@ -20,7 +21,8 @@ returns-in-Ok-clause-stops c = λ text stands.
 pub returns-in-Err-Bad-clause-stops : goal.returns-in-Err-Bad-clause-stops
 returns-in-Err-Bad-clause-stops c = λ text stands.
     let breaks = rw c.in-Err-Bad.field-0-is at (c.in-Err-Bad.ensures.stops text stands.0) in
-    frame-stops c.reading_is_the_grammar.ensures.one_sequence c.reading_is_the_grammar.ensures.not_both text c.args.piece.now
+    frame-stops c.reading_is_the_grammar.ensures.one_sequence c.reading_is_the_grammar.ensures.not_both text
+    c.args.piece.now
     c.args.reader c.feed.new.self c.args.opened c.in-Err-Bad.before
     c.in-Err-Bad.place _ c.take_last.result (state.Reading c.args.reader c.args.opened) c.take_last.new.self stands
     breaks (rw (c.in-Err-Bad.before-is, c.in-Err-Bad.place-is) at c.take_last.ensures)

@@ -8,8 +8,9 @@ pub returns-clause-stands : goal.returns-clause-stands
 returns-clause-stands c =
     let stands : HasRead (Waiting 0 []) [] = subst
     (λ (s : ReaderState). HasRead s []) c.new.ensures.state c.new.ensures.stands in
-    let row : LongestSequence [] [] [] = record { each = tt; text_is = refl; longest = λ others left each e. omega arith } in
-    let whole : IsWhole [] [] = record { forms = []; rest = []; sequence = row; commands_are = refl } in
+    let seq : LongestSequence [] [] [] =
+    record { each = tt; text_is = refl; longest = λ others left each e. omega arith } in
+    let whole : IsWhole [] [] = record { forms = []; rest = []; sequence = seq; commands_are = refl } in
     let log : IsLog [] [] None = record {
       commands = [];
       whole = whole;

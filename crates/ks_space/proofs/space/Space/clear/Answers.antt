@@ -6,4 +6,8 @@ use Rattle.ks_space.proofs.Stores.{IsStore-empty}
 use Rattle.ks_space.proofs.space.Space.clear.Goals as goal
 
 pub invariant_of-self : goal.invariant_of-self
-invariant_of-self c = (subst IsStore (sym c.clear.ensures) IsStore-empty, c.clear-2.ensures ∙ dues-empty ∙ ap dues (sym c.clear.ensures))
+invariant_of-self c = (
+  subst IsStore (sym c.clear.ensures) IsStore-empty,
+  c.clear-2.ensures ∙ dues-empty
+      ∙ ap dues (sym c.clear.ensures),
+)

@@ -11,8 +11,10 @@ use Rattle.ks_space.proofs.space.Space.set_deadline.Goals as goal
 pub returns-then-are_same-clause-ok : goal.returns-then-are_same-clause-ok
 returns-then-are_same-clause-ok c =
     let entry = c.in-Some.entry.now in
-    let there : finite.get c.args.self.now c.args.key.now ≡ Some entry = ap (λ s. finite.get s c.args.key.now) (sym c.self.view_is) ∙ sym c.in-Some.ensures in
-    sym (ap (with_deadline c.args.self.now c.args.key.now) (sym (c.are_same.ensures.0 c.if-are_same.true)) ∙ with_deadline-same c.args.self.now c.args.key.now entry there)
+    let there : finite.get c.args.self.now c.args.key.now ≡ Some entry =
+    ap (λ s. finite.get s c.args.key.now) (sym c.self.view_is) ∙ sym c.in-Some.ensures in
+    sym (ap (with_deadline c.args.self.now c.args.key.now) (sym (c.are_same.ensures.0 c.if-are_same.true))
+    ∙ with_deadline-same c.args.self.now c.args.key.now entry there)
 
 pub invariant_of-self-2 : goal.invariant_of-self-2
 invariant_of-self-2 c =
@@ -23,11 +25,14 @@ invariant_of-self-2 c =
     let there : finite.get table key ≡ Some entry = sym c.in-Some.ensures in
     let kept = c.self.invariant.0 key entry there in
     let after = c.set_deadline.ensures ∙ with_deadline-insert table key entry c.args.deadline there in
-    let other : entry.deadline ≢ c.args.deadline = λ e. true≢false (sym (c.are_same.ensures.1 e) ∙ c.if-are_same.false) in
+    let other : entry.deadline ≢ c.args.deadline =
+    λ e. true≢false (sym (c.are_same.ensures.1 e) ∙ c.if-are_same.false) in
     let came = c.in_ok-enter.ensures.ok (has_due table) (index_of table c.self.inside.deadlines c.self.invariant.1) in
     let left = c.leave.ensures (λ q. is_due c.of-coming.result q || has_due table q) came in
-    let index = moved table key c.leave.new.self entry.deadline c.args.deadline c.of-leaving.result c.of-coming.result (c.of-leaving.ensures ∙ ap (λ k. due_of k entry.deadline) c.in_ok-from_slice.ensures)
+    let index = moved table key c.leave.new.self entry.deadline c.args.deadline c.of-leaving.result c.of-coming.result
+    (c.of-leaving.ensures ∙ ap (λ k. due_of k entry.deadline) c.in_ok-from_slice.ensures)
     (c.of-coming.ensures ∙ ap (λ k. due_of k c.args.deadline) c.in_ok-from_slice-2.ensures) left in (
       subst IsStore (sym after) (IsStore-insert table key changed c.self.invariant.0 kept.0 (kept.1.0, c.requires)),
-      dues-insert table key c.leave.new.self changed entry.deadline (sym (ap (option_and_then (λ (e : Entry). e.deadline)) there)) other index ∙ ap dues (sym after),
+      dues-insert table key c.leave.new.self changed entry.deadline
+          (sym (ap (option_and_then (λ (e : Entry). e.deadline)) there)) other index ∙ ap dues (sym after),
     )

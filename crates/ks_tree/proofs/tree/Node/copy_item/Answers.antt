@@ -12,5 +12,6 @@ returns g c =
     let within : 0 < to = omega arith in
     let one = slice_range-one c.args.self.now.item from to none_before within in
     on_ok_weaker c.push.result (λ pushed xs all.
-    let more = AllZip-push g.T.Clone.is_clone xs c.args.copies.now c.args.self.now.item c.in_ok-clone.field-0 all c.in_ok-clone.ensures.cases in
+    let more = AllZip-push g.T.Clone.is_clone xs c.args.copies.now c.args.self.now.item c.in_ok-clone.field-0 all
+    c.in_ok-clone.ensures.cases in
     rw one (rw (← pushed) at more)) c.push.ensures.ok

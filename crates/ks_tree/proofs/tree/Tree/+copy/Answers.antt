@@ -10,4 +10,6 @@ returns g t c =
     let left = rw c.deref.ensures at c.in_ok-left.ensures in
     let item = rw c.deref-2.ensures at c.in_ok-item.ensures.cases in
     let right = rw c.deref-3.ensures at c.in_ok-right.ensures in
-    rw (is, c.in_ok-copy.ensures.ok) (AllZip-append g.T.Clone.is_clone node.left (node.item ∷ node.right) c.in_ok-left.left (c.in_ok-item.item ∷ c.in_ok-right.right) left (item, right))
+    rw (is, c.in_ok-copy.ensures.ok)
+    (AllZip-append g.T.Clone.is_clone node.left (node.item ∷ node.right) c.in_ok-left.left
+    (c.in_ok-item.item ∷ c.in_ok-right.right) left (item, right))

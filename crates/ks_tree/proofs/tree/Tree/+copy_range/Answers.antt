@@ -15,5 +15,11 @@ returns g t c =
     on_ok_weaker c.copy_range-2.result (λ rest xs all.
     let left = rw c.deref-2.ensures at (c.in_ok-copy_range.ensures xs all) in
     let item = rw c.deref-3.ensures at (c.in_ok-copy_item.ensures (xs ++ slice_range node.left from to) left) in
-    let right = rest (xs ++ slice_range node.left from to ++ slice_range (node.item ∷ []) (from - length node.left) (to - length node.left)) item in
-    rw is (range_copied g.T.Clone.is_clone node.left node.right node.item from to c.len-here.result xs c.copy_range-2.new.copies here (rw (c.deref-4.ensures, c.saturating_sub.ensures, c.saturating_sub-2.ensures) at right))) c.copy_range-2.ensures
+    let right = rest (xs ++ slice_range node.left from to
+    ++ slice_range (node.item ∷ []) (from - length node.left) (to - length node.left)) item in
+    rw is (range_copied g.T.Clone.is_clone node.left node.right node.item from to c.len-here.result xs
+    c.copy_range-2.new.copies here (rw (
+      c.deref-4.ensures,
+      c.saturating_sub.ensures,
+      c.saturating_sub-2.ensures,
+    ) at right))) c.copy_range-2.ensures

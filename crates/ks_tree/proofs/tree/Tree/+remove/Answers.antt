@@ -16,10 +16,12 @@ returns-then-at-here-2-clause-rest g t c =
 pub returns-else-at-here-2-clause-value : goal.returns-else-at-here-2-clause-value
 returns-else-at-here-2-clause-value g t c =
     ap (λ l. slice_get l c.args.at) c.unlink-left.ensures.items
-    ∙ slice_get_here c.unlink-left.result.0 c.unlink-left.result.2 c.unlink-left.result.1.value.item c.args.at (omega arith)
+    ∙ slice_get_here c.unlink-left.result.0 c.unlink-left.result.2 c.unlink-left.result.1.value.item c.args.at
+    (omega arith)
 
 pub returns-else-at-here-2-clause-rest : goal.returns-else-at-here-2-clause-rest
 returns-else-at-here-2-clause-rest g t c =
     c.merge.ensures
-    ∙ sym (remove_here c.unlink-left.result.0 c.unlink-left.result.2 c.unlink-left.result.1.value.item c.args.at (omega arith))
+    ∙ sym (remove_here c.unlink-left.result.0 c.unlink-left.result.2 c.unlink-left.result.1.value.item c.args.at
+    (omega arith))
     ∙ ap (λ l. remove l c.args.at) (sym c.unlink-left.ensures.items)

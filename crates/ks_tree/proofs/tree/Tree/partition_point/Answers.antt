@@ -22,7 +22,12 @@ loop-tree-preserved-then-pred g c =
           let next = answers_next g.P.FnMut _ _ _ _ _ call now.0 in
           let passes = sym (rw c.deref.ensures at next.0) in
           let here = rw is at now.1 in
-          rw c.deref-then-pred.ensures (next.1, parted_right p node.left node.right node.item here, count_behind p node.left node.right node.item here c.loop-tree.count (count_by p c.args.self.now) passes (rw is at now.2));
+          rw c.deref-then-pred.ensures (
+            next.1,
+            parted_right p node.left node.right node.item here,
+            count_behind p node.left node.right node.item here c.loop-tree.count (count_by p c.args.self.now) passes
+                (rw is at now.2),
+          );
     }
 
 pub loop-tree-preserved : goal.loop-tree-preserved
@@ -42,5 +47,10 @@ loop-tree-preserved g c =
           let next = answers_next g.P.FnMut _ _ _ _ _ call now.0 in
           let fails = sym (rw c.deref.ensures at next.0) in
           let here = rw is at now.1 in
-          rw (c.deref-else-pred-2.ensures, right) (next.1, parted_left p node.left node.right node.item here, count_before p node.left node.right node.item here c.loop-tree.count (count_by p c.args.self.now) fails room (rw is at now.2));
+          rw (c.deref-else-pred-2.ensures, right) (
+            next.1,
+            parted_left p node.left node.right node.item here,
+            count_before p node.left node.right node.item here c.loop-tree.count
+                (count_by p c.args.self.now) fails room (rw is at now.2),
+          );
     }

@@ -10,5 +10,6 @@ invariant-loop-tree g l = record {
   room : length l.tree ≤ l.count;
   within : l.count ≤ length l.self;
   left_out : (p : g.row.T.Denot → Bool) → ComputesKey g.P.FnMut p l.initial.pred → IsPartitionedBy p l.self
-      → ComputesKey g.P.FnMut p l.pred × IsPartitionedBy p l.tree × (l.count + count_by p l.tree ≡ count_by p l.self + length l.tree);
+      → ComputesKey g.P.FnMut p l.pred × IsPartitionedBy p l.tree
+      × (l.count + count_by p l.tree ≡ count_by p l.self + length l.tree);
 }

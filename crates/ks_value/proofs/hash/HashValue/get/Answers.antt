@@ -5,4 +5,5 @@ use Rattle.ks_value.proofs.Seen.{lookup-seen}
 use Rattle.ks_value.proofs.hash.HashValue.get.Goals as goal
 
 pub returns : goal.returns
-returns c = c.get.ensures.value ∙ lookup-seen (λ k. k.items) (bytes_eq c.args.field.now) c.self.inside.pairs.entries ∙ ap (λ pairs. value_of pairs c.args.field.now) c.self.view_is
+returns c = c.get.ensures.value ∙ lookup-seen (λ k. k.items) (bytes_eq c.args.field.now) c.self.inside.pairs.entries
+    ∙ ap (λ pairs. value_of pairs c.args.field.now) c.self.view_is

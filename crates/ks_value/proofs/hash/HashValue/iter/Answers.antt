@@ -4,4 +4,5 @@ use Rattle.ks_value.proofs.Seen.{distinct-seen}
 use Rattle.ks_value.proofs.hash.HashValue.iter.Goals as goal
 
 pub returns-clause-distinct : goal.returns-clause-distinct
-returns-clause-distinct c = subst HasDistinctFields c.self.view_is (distinct-seen (λ k. k.items) c.self.inside.pairs.entries c.iter.ensures.unique)
+returns-clause-distinct c = subst HasDistinctFields c.self.view_is
+    (distinct-seen (λ k. k.items) c.self.inside.pairs.entries c.iter.ensures.unique)

@@ -12,7 +12,8 @@ returns-clause-value c =
 
 pub returns-clause-pairs : goal.returns-clause-pairs
 returns-clause-pairs c =
-    ap (map_keys (λ k. k.items)) c.shift_remove.ensures.entries ∙ remove_entry-seen (λ k. k.items) (bytes_eq c.args.field.now) c.self.inside.pairs.entries
+    ap (map_keys (λ k. k.items)) c.shift_remove.ensures.entries
+    ∙ remove_entry-seen (λ k. k.items) (bytes_eq c.args.field.now) c.self.inside.pairs.entries
     ∙ ap (λ pairs. remove_field pairs c.args.field.now) c.self.view_is
 
 pub returns-clause-distinct : goal.returns-clause-distinct

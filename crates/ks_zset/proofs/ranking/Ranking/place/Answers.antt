@@ -9,5 +9,7 @@ use Rattle.ks_zset.proofs.ranking.Ranking.place.Goals as goal
 
 pub returns : goal.returns
 returns c =
-    c.partition_point.ensures.count (λ scored. is_lt (by_score scored (c.args.member.now, c.args.score))) (always_returns_same _ _ _ (λ a r q k. search rules)) (parted_before score_total (c.args.member.now, c.args.score) c.self.inside.members c.self.invariant)
+    c.partition_point.ensures.count (λ scored. is_lt (by_score scored (c.args.member.now, c.args.score)))
+    (always_returns_same _ _ _ (λ a r q k. search rules))
+    (parted_before score_total (c.args.member.now, c.args.score) c.self.inside.members c.self.invariant)
     ∙ ap (count_by (λ scored. is_lt (by_score scored (c.args.member.now, c.args.score)))) c.self.view_is

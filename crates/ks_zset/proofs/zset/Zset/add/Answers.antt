@@ -6,11 +6,13 @@ use Rattle.ks_zset.proofs.Ranked.{lacks_absent, ranking-insert_new}
 use Rattle.ks_zset.proofs.zset.Zset.add.Goals as goal
 
 pub insert-requires : goal.insert-requires
-insert-requires c = rw (c.in_ok-clone.ensures.cases, c.self.invariant, c.self.view_is) (lacks_absent c.args.self.now c.args.member c.args.score c.requires)
+insert-requires c = rw (c.in_ok-clone.ensures.cases, c.self.invariant, c.self.view_is)
+    (lacks_absent c.args.self.now c.args.member c.args.score c.requires)
 
 pub invariant_of-self-in-Ok : goal.invariant_of-self-in-Ok
 invariant_of-self-in-Ok c =
     c.in_ok-place.ensures.ok
-    ∙ ap₂ (λ l m. insert_key by_score l (m, c.args.score)) (c.self.invariant ∙ ap ranking_of c.self.view_is) c.in_ok-clone.ensures.cases
+    ∙ ap₂ (λ l m. insert_key by_score l (m, c.args.score)) (c.self.invariant
+    ∙ ap ranking_of c.self.view_is) c.in_ok-clone.ensures.cases
     ∙ sym (ranking-insert_new c.args.self.now c.args.member c.args.score c.requires)
     ∙ ap ranking_of (ap (λ z. finite.insert z c.args.member c.args.score) (sym c.self.view_is) ∙ sym c.in-Ok.ensures.ok)

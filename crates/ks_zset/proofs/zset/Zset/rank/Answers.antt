@@ -6,10 +6,13 @@ use Rattle.ks_zset.proofs.Ranked.{rank_found, rank_absent}
 use Rattle.ks_zset.proofs.zset.Zset.rank.Goals as goal
 
 pub returns-in-None : goal.returns-in-None
-returns-in-None c = sym (rank_absent c.args.self.now c.args.member.now (ap (λ z. finite.get z c.args.member.now) (sym c.self.view_is) ∙ sym c.get.ensures ∙ c.in-None.is))
+returns-in-None c = sym (rank_absent c.args.self.now c.args.member.now
+    (ap (λ z. finite.get z c.args.member.now) (sym c.self.view_is) ∙ sym c.get.ensures ∙ c.in-None.is))
 
 pub returns-in-Some : goal.returns-in-Some
 returns-in-Some c =
     let scored : ScoredMember = (c.args.member.now, c.in-Some.score) in
-    ap Some (c.place.ensures ∙ ap (λ ranking. place_of by_score ranking scored) (c.self.invariant ∙ ap ranking_of c.self.view_is))
-    ∙ sym (rank_found c.args.self.now c.args.member.now c.in-Some.score (ap (λ z. finite.get z c.args.member.now) (sym c.self.view_is) ∙ sym c.get.ensures ∙ c.in-Some.is))
+    ap Some (c.place.ensures ∙ ap (λ ranking. place_of by_score ranking scored) (c.self.invariant
+    ∙ ap ranking_of c.self.view_is))
+    ∙ sym (rank_found c.args.self.now c.args.member.now c.in-Some.score
+    (ap (λ z. finite.get z c.args.member.now) (sym c.self.view_is) ∙ sym c.get.ensures ∙ c.in-Some.is))

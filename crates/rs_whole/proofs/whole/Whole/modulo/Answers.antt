@@ -1,6 +1,7 @@
 use Rattle.rs_whole.proofs.Division.{plain_result, moved_result}
 use Rattle.rs_whole.proofs.whole.Whole.modulo.Goals as goal
-use Rattle.rs_whole.proofs.whole.Whole.modulo.Goals.{else-rest-ne0-via-then-rest-ne0+else-other-lt0, else-rest-ne0-via-else-rest-ne0}
+use Rattle.rs_whole.proofs.whole.Whole.modulo.Goals.{else-rest-ne0-via-then-rest-ne0+else-other-lt0}
+use Rattle.rs_whole.proofs.whole.Whole.modulo.Goals.{else-rest-ne0-via-else-rest-ne0}
 
 pub returns-then-other-lt0 : goal.returns-then-other-lt0
 returns-then-other-lt0 c =

@@ -1,7 +1,8 @@
 use Rattle.std.proofs.Common.{sym, ◌∙◌}
 use Rattle.rs_whole.proofs.Powers.{no_pow, pow_result}
 use Rattle.rs_whole.proofs.whole.Whole.pow.Goals as goal
-use Rattle.rs_whole.proofs.whole.Whole.pow.Goals.{else-other-lt0-via-then-other-lt0+else-unsigned_abs-ne1, else-other-lt0-via-else-other-lt0}
+use Rattle.rs_whole.proofs.whole.Whole.pow.Goals.{else-other-lt0-via-then-other-lt0+else-unsigned_abs-ne1}
+use Rattle.rs_whole.proofs.whole.Whole.pow.Goals.{else-other-lt0-via-else-other-lt0}
 
 pub returns-then-unsigned_abs-ne1 : goal.returns-then-unsigned_abs-ne1
 returns-then-unsigned_abs-ne1 c =
