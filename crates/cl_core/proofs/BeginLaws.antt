@@ -1,5 +1,6 @@
 -- What the beginning of a turn does.
-use Rattle.std.proofs.Common.{◌≡◌, ℕ, max, suc, ◌<◌, ◌≤◌, arith, List, [], ◌∷◌, ◌++◌, Option, Some, None, map, fold, append-nil, refl, sym, ap, subst, ◌∙◌}
+use Rattle.std.proofs.Common.{◌≡◌, ℕ, max, suc, ◌<◌, ◌≤◌, arith, List, [], ◌∷◌, ◌++◌, Option, Some, None, map, fold}
+use Rattle.std.proofs.Common.{append-nil, refl, sym, ap, subst, ◌∙◌}
 use Rattle.std.specs.Prelude.{◌↔◌, Contains}
 use Rattle.std.specs.List.{AllByRecursion}
 use Rattle.std.specs.Option.{IsSomeAnd, option_and_then}
@@ -30,34 +31,45 @@ first_in key keys = (0, omega arith, refl)
 later_in : (first key : List ℕ) (keys : List (List ℕ)) → Contains keys key → Contains (first ∷ keys) key
 later_in first key keys is = (suc is.0, omega (arith, is.1), is.2)
 
-each_in : (P : List ℕ → Type 0) (keys : List (List ℕ)) → ((key : List ℕ) → Contains keys key → P key) → AllByRecursion P keys
+each_in : (P : List ℕ → Type 0) (keys : List (List ℕ)) → ((key : List ℕ) → Contains keys key → P key)
+    → AllByRecursion P keys
 each_in P [] h = tt
-each_in P (key ∷ keys) h = (h key (first_in key keys), each_in P keys (λ other is. h other (later_in key other keys is)))
+each_in P (key ∷ keys) h = (
+  h key (first_in key keys),
+  each_in P keys (λ other is. h other (later_in key other keys is)),
+)
 
-module _ (listed : (store : Store) (time : ℕ) (key : List ℕ) → Contains (gone store time) key ↔ IsSomeAnd (deadline_at store key) (λ at. at < time)) where
-  key_by : (store : Store) (time : ℕ) (key : List ℕ) (found : Option Entry) → IsStore store → finite.get store key ≡ found
+module _ (listed : (store : Store) (time : ℕ) (key : List ℕ)
+    → Contains (gone store time) key ↔ IsSomeAnd (deadline_at store key) (λ at. at < time)) where
+  key_by : (store : Store) (time : ℕ) (key : List ℕ) (found : Option Entry) → IsStore store
+      → finite.get store key ≡ found
       → IsSomeAnd (option_and_then (λ (entry : Entry). entry.deadline) found) (λ at. at < time) → IsKey key
   key_by store time key None within is past = absurd past
   key_by store time key (Some entry) within is past = (within key entry is).0
 
   -- the keys that leave are keys of the store
   pub gone_within : (store : Store) (time : ℕ) → IsStore store → AllByRecursion IsKey (gone store time)
-  gone_within store time within = each_in IsKey (gone store time) (λ key is. key_by store time key _ within refl ((listed store time key).0 is))
+  gone_within store time within =
+      each_in IsKey (gone store time) (λ key is. key_by store time key _ within refl ((listed store time key).0 is))
 
-  past_by : (store : Store) (time : ℕ) (key : List ℕ) (deadline : Option ℕ) → IsTimely store time → deadline_at store key ≡ deadline → IsSomeAnd deadline (λ at. at < time) → ⊥
+  past_by : (store : Store) (time : ℕ) (key : List ℕ) (deadline : Option ℕ) → IsTimely store time
+      → deadline_at store key ≡ deadline → IsSomeAnd deadline (λ at. at < time) → ⊥
   past_by store time key None timely is past = past
   past_by store time key (Some at) timely is past = let after : time ≤ at = timely key at is in absurd (omega arith)
 
   gone_by : (store : Store) (time : ℕ) (keys : List (List ℕ)) → IsTimely store time → gone store time ≡ keys → keys ≡ []
   gone_by store time [] timely is = refl
   gone_by store time (key ∷ keys) timely is =
-      absurd (past_by store time key _ timely refl ((listed store time key).0 (subst (λ all. Contains all key) (sym is) (first_in key keys))))
+      absurd (past_by store time key _ timely refl
+      ((listed store time key).0 (subst (λ all. Contains all key) (sym is) (first_in key keys))))
 
   -- a turn that begins at no later a clock, with the draws as they are, changes nothing
-  pub begun_again : (run : Run) (clock : ℕ) → IsTimely run.state.store run.state.time → clock ≤ run.state.time → begun_at clock run.state.draws run ≡ run
+  pub begun_again : (run : Run) (clock : ℕ) → IsTimely run.state.store run.state.time → clock ≤ run.state.time
+      → begun_at clock run.state.draws run ≡ run
   begun_again run clock timely early =
       let same : max run.state.time clock ≡ run.state.time = omega arith in
-      let none : gone run.state.store (max run.state.time clock) ≡ [] = ap (gone run.state.store) same ∙ gone_by run.state.store run.state.time _ timely refl in
+      let none : gone run.state.store (max run.state.time clock) ≡ [] = ap (gone run.state.store) same
+      ∙ gone_by run.state.store run.state.time _ timely refl in
       let left = purged_none run.state.store (max run.state.time clock) none in
       let logged = ap (λ keys. run.groups ++ map removal keys) none ∙ append-nil run.groups in
       λ i. record {

@@ -1,4 +1,5 @@
--- The machine in a user's words: what happens, by the bytes of clients alone, what each event makes of the world, and what is
+-- The machine in a user's words: what happens, by the bytes of clients alone, what each event makes of the world, and
+-- what is
 -- answered and logged.
 use Rattle.std.specs.Prelude.{◌≡◌, ℕ, max, nat_lt, if◌then◌else◌, List, [], ◌∷◌, ◌++◌, Option, Some, None, map, fold}
 use Rattle.std.specs.FinMap as finite
@@ -15,9 +16,11 @@ use Rattle.cmd_args.specs.declared.turn.Mode.TheVariants.{Client}
 use Rattle.cmd_rows.specs.Outcomes.{ok}
 use Rattle.cmd_exec.specs.Worlds.{World, empty_world, begun, moved_by}
 use Rattle.cmd_exec.specs.Exec.{exec}
-use Rattle.cl_core.specs.Machine.{Clients, Run, world_of, reply_row, group_of, removal, before_quit, quits, protocol_error, commands_of, too_many_clients}
+use Rattle.cl_core.specs.Machine.{Clients, Run, world_of, reply_row, group_of, removal, before_quit, quits}
+use Rattle.cl_core.specs.Machine.{protocol_error, commands_of, too_many_clients}
 
--- what happens: a turn begins at a clock and with a word, or a client asks for a command, is told something else, or is shut
+-- what happens: a turn begins at a clock and with a word, or a client asks for a command, is told something else, or
+-- is shut
 pub data Event : Type 0 where
   Began : ℕ → ℕ → Event
   Asked : ℕ → List (List ℕ) → Event
@@ -32,7 +35,8 @@ ending client (Broken forms place kind) = Told client (protocol_error kind) ∷ 
 -- what happens where a client's bytes, those that were left and those that came, read so: nothing comes behind a QUIT
 abbrev pub read_events : ℕ → Reading → List Event
 read_events client read =
-    if quits (commands_of read) then map (Asked client) (before_quit (commands_of read)) ++ Told client ok ∷ Ended client ∷ []
+    if quits (commands_of read) then map (Asked client) (before_quit (commands_of read))
+    ++ Told client ok ∷ Ended client ∷ []
     else map (Asked client) (commands_of read) ++ ending client read
 
 abbrev pub keeping : ℕ → Reading → Clients → Clients
@@ -40,7 +44,8 @@ keeping client (Unfinished forms left) clients = finite.insert clients client le
 keeping client (Broken forms place kind) clients = finite.remove clients client
 
 abbrev pub clients_read : ℕ → Reading → Clients → Clients
-clients_read client read clients = if quits (commands_of read) then finite.remove clients client else keeping client read clients
+clients_read client read clients =
+    if quits (commands_of read) then finite.remove clients client else keeping client read clients
 
 abbrev pub piece_events : ℕ → List ℕ → Option (List ℕ) → List Event
 piece_events client bytes None = []
@@ -72,7 +77,8 @@ clients_by Idle client clients = clients
 abbrev pub events_from : Clients → List Turn → List Event
 events_from clients [] = []
 events_from clients (turn ∷ turns) =
-    Began turn.clock turn.word ∷ events_by turn.what turn.client clients ++ events_from (clients_by turn.what turn.client clients) turns
+    Began turn.clock turn.word ∷ events_by turn.what turn.client clients
+    ++ events_from (clients_by turn.what turn.client clients) turns
 
 -- what happens in turns from the beginning
 abbrev pub events : List Turn → List Event

@@ -1,6 +1,8 @@
--- The reference machine: it takes turns one by one, and in them whole commands one at a time, in the order in which they
+-- The reference machine: it takes turns one by one, and in them whole commands one at a time, in the order in which
+-- they
 -- became complete.
-use Rattle.std.specs.Prelude.{ℕ, max, nat_lt, Bool, true, false, if◌then◌else◌, List, [], ◌∷◌, ◌++◌, Option, Some, None, map, fold, codes, refl}
+use Rattle.std.specs.Prelude.{ℕ, max, nat_lt, Bool, true, false, if◌then◌else◌, List, [], ◌∷◌, ◌++◌, Option, Some}
+use Rattle.std.specs.Prelude.{None, map, fold, codes, refl}
 use Rattle.std.specs.Coded.{Coded, code_by, coded×, coded_list, coded_ℕ}
 use Rattle.std.specs.Ordering.{nat_cmp}
 use Rattle.std.specs.FinMap as finite
@@ -21,7 +23,8 @@ use Rattle.ks_space.specs.Purge.{gone}
 use Rattle.fx_record.specs.declared.record.Record.{Record}
 use Rattle.fx_record.specs.declared.record.Record.TheVariants.{Del}
 use Rattle.fx_log.specs.declared.group.Group.{Group}
-use Rattle.cmd_args.specs.declared.commands.CmdId.TheVariants.{Quit}
+use Rattle.cmd_args.specs.declared.commands.CmdId.TheVariants as family
+use Rattle.cmd_args.specs.declared.commands.ClientCmd.TheVariants.{Quit}
 use Rattle.cmd_args.specs.declared.turn.Mode.TheVariants.{Client}
 use Rattle.cmd_args.specs.Table.{is_name}
 use Rattle.cmd_rows.specs.Outcomes.{Outcome, ok}
@@ -58,7 +61,12 @@ silent state = record { state = state; rows = []; groups = [] }
 
 -- no keys, no clients, and time 0
 abbrev pub beginning : State
-beginning = record { store = empty_world.store; clients = finite.empty; time = empty_world.time; draws = empty_world.draws }
+beginning = record {
+  store = empty_world.store;
+  clients = finite.empty;
+  time = empty_world.time;
+  draws = empty_world.draws;
+}
 
 -- a row more
 abbrev pub sending : OutRow → Run → Run
@@ -95,7 +103,7 @@ with_command client run words = having_done client (exec (world_of run.state) Cl
 -- QUIT alone, in letters of either case
 abbrev pub is_quit : List (List ℕ) → Bool
 is_quit [] = false
-is_quit (name ∷ []) = is_name name Quit
+is_quit (name ∷ []) = is_name name (family.Client Quit)
 is_quit (name ∷ word ∷ words) = false
 
 -- the commands that are carried out of these: those before the first QUIT
@@ -132,7 +140,8 @@ abbrev pub settling : ℕ → Reading → Run → Run
 settling client (Unfinished forms rest) run = holding client rest run
 settling client (Broken forms place kind) run = shutting client (sending (reply_row client (protocol_error kind)) run)
 
--- The bytes of a client, those that were left and those that came, which read so: the commands in them are carried out in
+-- The bytes of a client, those that were left and those that came, which read so: the commands in them are carried
+-- out in
 -- order. Behind a QUIT the client is shut, and the bytes behind it are dropped.
 abbrev pub taking : ℕ → Reading → Run → Run
 taking client read run =
@@ -164,7 +173,8 @@ turn_by Idle client run = run
 abbrev pub removal : List ℕ → Group
 removal key = record { records = Del key ∷ []; wrapped = false }
 
--- a turn begins: its time is the greater of the last time and the clock, the keys leave whose deadline is below it, in the
+-- a turn begins: its time is the greater of the last time and the clock, the keys leave whose deadline is below it,
+-- in the
 -- order of their deadlines and then of their bytes, and draws begin at the turn's word
 abbrev pub begun_at : ℕ → ℕ → Run → Run
 begun_at clock word run = record run {
@@ -196,4 +206,5 @@ run_from state turns = fold with_turn (silent state) turns
 abbrev pub state_code : Coded State
 state_code =
     code_by (World × Clients) (coded× world_code (finite.code coded_ℕ (coded_list coded_ℕ)))
-    (λ s. (world_of s, s.clients)) (λ p. record { store = p.0.store; clients = p.1; time = p.0.time; draws = p.0.draws }) (λ _. refl)
+    (λ s. (world_of s, s.clients)) (λ p.
+    record { store = p.0.store; clients = p.1; time = p.0.time; draws = p.0.draws }) (λ _. refl)

@@ -1,5 +1,5 @@
-//! The machine of many clients: it takes turns one by one, reads each client's bytes as commands, and has them carried out
-//! at a desk.
+//! The machine of many clients: it takes turns one by one, reads each client's bytes as commands, and has them
+//! carried out at a desk.
 #![tactic(auto)]
 
 mod client;

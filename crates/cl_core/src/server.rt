@@ -10,8 +10,8 @@ use crate::client::{Client, Clients, Fed, MAX_CLIENTS};
 use crate::grouping::{add_group, add_removals};
 use crate::laws::turns_keep_validity;
 use crate::sending::{dismiss, protocol_fault, send};
-use cmd_args::{CmdId, Mode};
-use cmd_exec::Desk;
+use cmd_args::{ClientCmd, CmdId, Mode};
+use cmd_exec::{Desk, exec};
 use cmd_rows::ok;
 use fx_log::Groups;
 use ks_space::Space;
@@ -23,8 +23,8 @@ use std::alloc::Global;
 use std::collections::VecDeque;
 use std::marker::Model;
 
-/// The server: a desk at which the commands of clients are carried out, and the open clients. Contracts see it as the store,
-/// the clients, the time of the last turn and the state of its draws.
+/// The server: a desk at which the commands of clients are carried out, and the open clients. Contracts see it as the
+/// store, the clients, the time of the last turn and the state of its draws.
 #[derive(Drop)]
 pub struct Server {
     alloc: Global,
@@ -42,14 +42,20 @@ impl Model for Server {
 
     ghost coded = { state_code };
 
-    ghost view = { λ s. record { store = s.desk.world.store; clients = s.clients; time = s.desk.world.time; draws = s.desk.world.draws } };
+    ghost view = { λ s. record {
+      store = s.desk.world.store;
+      clients = s.clients;
+      time = s.desk.world.time;
+      draws = s.desk.world.draws;
+    } };
 
     // Between commands nothing waits to be logged.
     ghost invariant = { λ s. (s.desk.mode ≡ Client) × IsIdle s.desk };
 }
 
 impl Server {
-    ghost use Rattle.cl_core.specs.Machine.{State, beginning, step, turn_on, begun_at, with_command, opening, piece_of, before_quit, quits};
+    ghost use Rattle.cl_core.specs.Machine.{State, beginning, step, turn_on, begun_at, with_command, opening};
+    ghost use Rattle.cl_core.specs.Machine.{piece_of, before_quit, quits};
     ghost use Rattle.cl_core.specs.Valid.{IsValid};
     ghost use Rattle.cl_core.specs.Taken.{put_back, told_of};
 
@@ -128,7 +134,8 @@ impl Server {
 
     // Opens a client, or refuses it where the most are open.
     fn open(&mut self, client: u32, outs: &mut Outs) -> Result<(), NoMemory>
-        ensures same { (groups : List Group) → OnOk result (record { state = self.new; rows = outs.new; groups = groups }
+        ensures same { (groups : List Group)
+            → OnOk result (record { state = self.new; rows = outs.new; groups = groups }
             ≡ opening client (record { state = self.old; rows = outs.old; groups = groups })) }
     {
         if self.clients.contains(client) {
@@ -157,7 +164,8 @@ impl Server {
         groups: &mut Groups,
     ) -> Result<(), NoMemory>
         ensures { OnOk result (record { state = self.new; rows = outs.new; groups = groups.new }
-            ≡ piece_of client bytes.now (finite.get self.old.clients client) (record { state = self.old; rows = outs.old; groups = groups.old })) }
+            ≡ piece_of client bytes.now (finite.get self.old.clients client)
+            (record { state = self.old; rows = outs.old; groups = groups.old })) }
     {
         let Some(reader) = self.clients.take(client) else {
             return Ok(());
@@ -178,7 +186,8 @@ impl Server {
         groups: &mut Groups,
     ) -> Result<(), NoMemory>
         ensures { OnOk result (record { state = self.new; rows = outs.new; groups = groups.new }
-            ≡ put_back client reader (map (λ c. c.words) commands) (record { state = self.old; rows = outs.old; groups = groups.old })) }
+            ≡ put_back client reader (map (λ c. c.words) commands)
+            (record { state = self.old; rows = outs.old; groups = groups.old })) }
     {
         if self.take_all(client, commands, outs, groups)? {
             self.clients.put(client, reader)
@@ -198,7 +207,8 @@ impl Server {
         groups: &mut Groups,
     ) -> Result<(), NoMemory>
         ensures { OnOk result (record { state = self.new; rows = outs.new; groups = groups.new }
-            ≡ told_of client kind (map (λ c. c.words) commands) (record { state = self.old; rows = outs.old; groups = groups.old })) }
+            ≡ told_of client kind (map (λ c. c.words) commands)
+            (record { state = self.old; rows = outs.old; groups = groups.old })) }
     {
         if self.take_all(client, commands, outs, groups)? {
             let fault = protocol_fault(self.alloc, kind)?;
@@ -218,7 +228,8 @@ impl Server {
     ) -> Result<bool, NoMemory>
         ensures going { IfOk result (λ going. going ≡ not (quits (map (λ c. c.words) commands))) }
         ensures run { OnOk result (record { state = self.new; rows = outs.new; groups = groups.new }
-            ≡ fold (with_command client) (record { state = self.old; rows = outs.old; groups = groups.old }) (before_quit (map (λ c. c.words) commands))) }
+            ≡ fold (with_command client) (record { state = self.old; rows = outs.old; groups = groups.old })
+            (before_quit (map (λ c. c.words) commands))) }
     {
         let mut left = VecDeque::from_vec(commands.into_vec());
         while let Some(command) = left.pop_front() {
@@ -241,7 +252,7 @@ impl Server {
         ensures { OnOk result (record { state = self.new; rows = outs.new; groups = groups.new }
             ≡ with_command client (record { state = self.old; rows = outs.old; groups = groups.old }) words.now) }
     {
-        let reply = self.desk.exec(words)?;
+        let reply = exec(&mut self.desk, words)?;
         let records = self.desk.take_effects();
         send(self.alloc, client, &reply, outs)?;
         add_group(records, groups)
@@ -261,7 +272,7 @@ fn is_quit(words: &Words) -> bool
     ensures { result ≡ is_quit words.now }
 {
     match words.as_slice() {
-        [name] => name.as_slice().eq_ignore_ascii_case(CmdId::Quit.name()),
+        [name] => name.as_slice().eq_ignore_ascii_case(CmdId::Client(ClientCmd::Quit).name()),
         _ => false,
     }
 }

@@ -77,8 +77,8 @@ fn tell_records(alloc: Global, records: &Effects, out: &mut Bytes) -> Result<(),
     Ok(())
 }
 
-// The records of groups: their words, each before a space, and each record before a `;`, and behind those of a group a `*`
-// where it is wrapped, and else a `|`.
+// The records of groups: their words, each before a space, and each record before a `;`, and behind those of a group
+// a `*` where it is wrapped, and else a `|`.
 fn logged(alloc: Global, groups: &Groups) -> Result<Bytes, NoMemory> {
     let mut out = Bytes::new(alloc);
     for group in groups.as_slice() {

@@ -7,18 +7,28 @@ use Rattle.std.specs.Option.{option_map, option_map_or}
 use Rattle.std.specs.Char.{to_ascii_lowercase, to_ascii_uppercase}
 use Rattle.std.specs.Str.{bytes_eq, str_to_ascii_lowercase, str_to_ascii_uppercase}
 use Rattle.cmd_args.specs.declared.commands.CmdId.{CmdId}
-use Rattle.cmd_args.specs.declared.commands.CmdId.TheVariants.{Ping}
+use Rattle.cmd_args.specs.declared.commands.CmdId.TheVariants.{Client, Server, Strings, Keys}
+use Rattle.cmd_args.specs.declared.commands.ClientCmd.TheVariants.{Quit}
+use Rattle.cmd_args.specs.declared.commands.ServerCmd.TheVariants.{Ping}
+use Rattle.cmd_args.specs.declared.commands.StringCmd.TheVariants.{Get}
+use Rattle.cmd_args.specs.declared.commands.KeyCmd.TheVariants.{Del}
 use Rattle.cmd_args.specs.declared.commands.Row.{Row}
-use Rattle.cmd_args.specs.Table.{command, commands, row_of, is_name, row_named}
+use Rattle.cmd_args.specs.Table.{command, client_command, server_command, string_command, key_command, commands}
+use Rattle.cmd_args.specs.Table.{row_of, is_name, row_named}
 
 -- each command is found by its name
 pub found : (id : CmdId) → row_named (command id).name ≡ Some (row_of id)
-unfolding command commands
-found Ping = refl
-found _ = refl
+unfolding command client_command server_command string_command key_command commands
+found (Client Quit) = refl
+found (Server Ping) = refl
+found (Server _) = refl
+found (Strings Get) = refl
+found (Strings _) = refl
+found (Keys Del) = refl
+found (Keys _) = refl
 
 abbrev id_of : Option Row → CmdId
-id_of row = option_map_or (λ r. r.id) row Ping
+id_of row = option_map_or (λ r. r.id) row (Server Ping)
 
 -- no two commands have the same name
 pub once : (one other : CmdId) → (command one).name ≡ (command other).name → one ≡ other

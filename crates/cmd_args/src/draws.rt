@@ -1,9 +1,10 @@
-ghost use Rattle.std.specs.Prelude.{◌≡◌, ◌≤◌};
-ghost use Rattle.cmd_args.specs.Draws.{drawn_word, drawn_place, state_behind};
+ghost use Rattle.std.specs.Prelude.{◌≡◌, ◌≤◌, IfOk};
+ghost use Rattle.cmd_args.specs.Draws.{drawn_word, drawn_place, state_behind, state_after};
 
 use rand_core::SeedableRng;
 use rand_core::utils::NextWord;
 use rand_xoshiro::SplitMix64;
+use rs_base::NoMemory;
 use std::marker::Model;
 
 /// The draws of a turn: words of 64 bits, one after another, by SplitMix64. Contracts see its state, a number.
@@ -45,5 +46,22 @@ impl Draws {
         ensures state { self.new ≡ state_behind self.old }
     {
         self.next() % n
+    }
+
+    /// The same draws, to be taken a second time.
+    pub fn copy(&self) -> Result<Draws, NoMemory>
+        ensures { IfOk result (λ copy. copy ≡ self.now) }
+    {
+        let generator = self.generator.clone()?;
+        Ok(Draws { generator })
+    }
+
+    /// Goes past so many draws.
+    pub fn skip(&mut self, draws: u64)
+        ensures { self.new ≡ state_after self.old draws }
+    {
+        for _ in 0..draws {
+            self.next();
+        }
     }
 }

@@ -8,11 +8,9 @@ mod finding;
 mod laws;
 mod refusal;
 mod table;
-#[cfg(test)]
-mod tests;
 mod turn;
 
-pub use commands::{CmdId, Row};
+pub use commands::{ClientCmd, CmdId, KeyCmd, Row, ServerCmd, StringCmd};
 pub use draws::Draws;
 pub use finding::find;
 pub use laws::{

@@ -4,13 +4,13 @@ use Rattle.std.proofs.Common.{sum_by, refl}
 use Rattle.std.specs.List.{AllByRecursion, list_all}
 use Rattle.std.proofs.lemmas.Bool.{leb-true}
 use Rattle.ks_space.specs.Store.{IsShort}
-use Rattle.fx_record.specs.RecordWords.{is_short}
+use Rattle.fx_record.specs.RecordWords.{is_short, are_within_limits}
 use Rattle.cmd_args.specs.declared.commands.Row.{Row}
 use Rattle.cmd_args.specs.declared.refusal.Refusal.{Refusal}
 use Rattle.cmd_args.specs.declared.turn.Mode.{Mode}
 use Rattle.cmd_args.specs.Table.{fits}
 use Rattle.cmd_args.specs.declared.refusal.Refusal.TheVariants.{WordCount, NotInScript, ReadOnlyScript, TooLarge}
-use Rattle.cmd_exec.specs.Exec.{is_barred, may_only_read, is_within, reason}
+use Rattle.cmd_exec.specs.Exec.{is_barred, may_only_read, reason}
 
 both : (a b : Bool) → (a && b) ≡ true → (a ≡ true) × (b ≡ true)
 both true b e = (refl, e)
@@ -37,8 +37,8 @@ all_short (word ∷ words) e = let each = both (is_short word) (list_all is_shor
 pub words_short : (mode : Mode) (row : Row) (words : List (List ℕ)) → reason mode row words ≡ None
     → AllByRecursion IsShort words
 words_short mode row words e =
-    let within = none_of (fits row (length words)) (is_barred mode row) (may_only_read mode && row.writes)
-    (is_within words) (WordCount row.id) NotInScript ReadOnlyScript TooLarge e in
+    let within = none_of (fits row words) (is_barred mode row) (may_only_read mode && row.writes)
+    (are_within_limits words) (WordCount row.id) NotInScript ReadOnlyScript TooLarge e in
     let sized = both (nat_le (length words) 65536)
     (list_all is_short words && nat_le (sum_by length words) 67108864) within in
     let each = both (list_all is_short words) (nat_le (sum_by length words) 67108864) sized.1 in

@@ -1,8 +1,8 @@
 -- One command: what it answers and does (Redis manual, command by command), and the order in which it is refused.
-use Rattle.std.specs.Prelude.{ℕ, nat_le, Bool, true, false, not, ◌&&◌, ◌||◌, if◌then◌else◌, List, [], ◌∷◌, Option}
-use Rattle.std.specs.Prelude.{Some, None, length, sum_by}
-use Rattle.std.specs.List.{list_all}
+use Rattle.std.specs.Prelude.{ℕ, Bool, true, false, not, ◌&&◌, ◌||◌, if◌then◌else◌, List, [], ◌∷◌, Option}
+use Rattle.std.specs.Prelude.{Some, None}
 use Rattle.cmd_args.specs.declared.commands.CmdId.{CmdId}
+use Rattle.cmd_args.specs.declared.commands.CmdId.TheVariants as family
 use Rattle.cmd_args.specs.declared.commands.Row.{Row}
 use Rattle.cmd_args.specs.declared.refusal.Refusal.{Refusal}
 use Rattle.cmd_args.specs.declared.refusal.Refusal.TheVariants.{NoWord, UnknownCommand, WordCount, NotInScript}
@@ -11,11 +11,12 @@ use Rattle.cmd_args.specs.declared.turn.Mode.{Mode}
 use Rattle.cmd_args.specs.declared.turn.Mode.TheVariants.{Client, Script, ScriptRo}
 use Rattle.cmd_args.specs.Table.{row_named, fits}
 use Rattle.cmd_args.specs.Refusals.{shown}
-use Rattle.fx_record.specs.RecordWords.{is_short}
+use Rattle.fx_record.specs.RecordWords.{are_within_limits}
 use Rattle.fx_record.specs.Settled.{settled}
 use Rattle.cmd_rows.specs.Outcomes.{Outcome, refused}
-use Rattle.cmd_string.specs.StringTable.{is_of_strings, string_row}
-use Rattle.cmd_keys.specs.Rows.{key_row}
+use Rattle.cmd_string.specs.StringRows.{string_row}
+use Rattle.cmd_keys.specs.ServerRows.{server_row}
+use Rattle.cmd_keys.specs.KeyRows.{key_row}
 use Rattle.cmd_exec.specs.Worlds.{World}
 
 -- clients alone may call it, or it may not stand in a script
@@ -29,25 +30,21 @@ may_only_read Client = false
 may_only_read Script = false
 may_only_read ScriptRo = true
 
--- at most 65,536 words, each of at most 16,777,216 bytes, and 67,108,864 bytes in all
-abbrev pub is_within : List (List ℕ) → Bool
-is_within words = nat_le (length words) 65536 && (list_all is_short words && nat_le (sum_by length words) 67108864)
-
 -- why a command that is known is refused before it is carried out: for the number of its words, for where it was
--- called,
--- for what it may do there, for its size
+-- called, for what it may do there, for its size
 abbrev pub reason : Mode → Row → List (List ℕ) → Option Refusal
 reason mode row words =
-    if not (fits row (length words)) then Some (WordCount row.id)
+    if not (fits row words) then Some (WordCount row.id)
     else (if is_barred mode row then Some NotInScript
     else (if may_only_read mode && row.writes then Some ReadOnlyScript
-    else (if not (is_within words) then Some TooLarge else None)))
+    else (if not (are_within_limits words) then Some TooLarge else None)))
 
--- what the command itself gives
+-- what the command itself gives, by its family: one that clients alone may send is not carried out here
 unfoldable pub row_outcome : World → CmdId → List (List ℕ) → Outcome
-row_outcome world id words =
-    if is_of_strings id then string_row world.store world.time id words else key_row world.store world.time
-    world.draws id words
+row_outcome world (family.Client id) words = refused NotInScript
+row_outcome world (family.Server id) words = server_row world id words
+row_outcome world (family.Strings id) words = string_row world id words
+row_outcome world (family.Keys id) words = key_row world id words
 
 abbrev pub unless_refused : Option Refusal → Outcome → Outcome
 unless_refused (Some why) outcome = refused why

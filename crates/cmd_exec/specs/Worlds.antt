@@ -1,23 +1,17 @@
 -- What commands find, and what they leave.
 use Rattle.std.specs.Prelude.{◌≡◌, ℕ, max, List, [], ◌++◌, refl}
-use Rattle.std.specs.Coded.{Coded, code_by, coded×, coded_list, coded_ℕ}
+use Rattle.std.specs.Coded.{Coded, code_by, coded×, coded_list}
 use Rattle.std.specs.FinMap as finite
-use Rattle.ks_space.specs.contracts.entry.Entry as entry
 use Rattle.cmd_args.specs.contracts.turn.Mode as mode
 use Rattle.fx_record.specs.contracts.record.Record as effect
-use Rattle.ks_space.specs.Store.{Store, IsStore}
+use Rattle.ks_space.specs.Store.{IsStore}
 use Rattle.ks_space.specs.Purge.{purged, IsTimely}
 use Rattle.fx_record.specs.declared.record.Record.{Record}
 use Rattle.fx_record.specs.Records.{applied}
 use Rattle.cmd_args.specs.declared.turn.Mode.{Mode}
 use Rattle.cmd_args.specs.Draws.{state_after}
 use Rattle.cmd_rows.specs.Outcomes.{Outcome}
-
--- the store, the time in milliseconds since the Unix epoch, and the state of the draws
-pub record World : Type 0 where
-  pub store : Store
-  pub time : ℕ
-  pub draws : ℕ
+pub use Rattle.cmd_rows.specs.Worlds.{World, world_code}
 
 -- no keys, and time 0
 abbrev pub empty_world : World
@@ -58,12 +52,6 @@ worked desk outcome = record desk { world = moved_by desk.world outcome; effects
 -- nothing waits to be logged
 abbrev pub IsIdle : DeskState → Type 0
 IsIdle desk = desk.effects ≡ []
-
--- a world is stored as its parts
-abbrev pub world_code : Coded World
-world_code =
-    code_by (Store × (ℕ × ℕ)) (coded× (finite.code (coded_list coded_ℕ) entry.the_row.coded) (coded× coded_ℕ coded_ℕ))
-    (λ w. (w.store, (w.time, w.draws))) (λ p. record { store = p.0; time = p.1.0; draws = p.1.1 }) (λ _. refl)
 
 abbrev pub desk_code : Coded DeskState
 desk_code =

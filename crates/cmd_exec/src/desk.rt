@@ -1,10 +1,11 @@
 ghost use Rattle.std.specs.Prelude.{◌≡◌, [], max, OnOk, OnErr, IfOk};
 ghost use Rattle.std.specs.FinMap as finite;
-ghost use Rattle.ks_space.specs.Purge.{gone};
+ghost use Rattle.ks_space.specs.Store.{IsStore};
+ghost use Rattle.ks_space.specs.Purge.{gone, IsTimely};
 ghost use Rattle.cmd_exec.specs.Worlds.{empty_world, begun, worked};
 ghost use Rattle.cmd_exec.specs.Exec.{exec};
 
-use crate::exec::carry_out;
+use crate::command::carry_out;
 use crate::laws::commands_keep_the_world;
 use cmd_args::{Ctx, Draws, Mode};
 use fx_record::Effects;
@@ -18,7 +19,6 @@ use std::marker::Model;
 /// the draws, and the records of what was done. No deadline of its store is below its time.
 #[derive(Drop)]
 pub struct Desk {
-    alloc: Global,
     space: Space,
     ctx: Ctx,
     mode: Mode,
@@ -48,13 +48,27 @@ impl Desk {
     pub fn new(alloc: Global, mode: Mode) -> Desk
         ensures { result ≡ record { world = empty_world; mode = mode; effects = [] } }
     {
+        Desk::over(Space::new(alloc), Ctx { time: 0 }, mode, 0)
+    }
+
+    /// A desk over a store within its limits at a turn's time, at which no deadline of the store is past: draws begin
+    /// at the turn's word, and no records wait.
+    pub fn over(space: Space, ctx: Ctx, mode: Mode, word: u64) -> Desk
+        requires limits { IsStore space }
+        requires timely { IsTimely space ctx.time }
+        ensures { result ≡ record {
+          world = record { store = space; time = ctx.time; draws = word };
+          mode = mode;
+          effects = [];
+        } }
+    {
+        let effects = Effects::new(space.alloc());
         Desk {
-            alloc,
-            space: Space::new(alloc),
-            ctx: Ctx { time: 0 },
+            space,
+            ctx,
             mode,
-            draws: Draws::new(0),
-            effects: Effects::new(alloc),
+            draws: Draws::new(word),
+            effects,
         }
     }
 
@@ -86,39 +100,39 @@ impl Desk {
         }
     }
 
-    /// Carries out one command, or refuses it: its reply is the fault then, and nothing is done. Adds the records of
-    /// what it did. After `NoMemory` the store is empty, and no records are kept.
-    pub fn exec(&mut self, words: &Words) -> Result<Reply, NoMemory>
-        ensures reply { IfOk result (λ reply. reply ≡ (exec self.old.world self.old.mode words.now).reply) }
-        ensures desk { OnOk result (self.new ≡ worked self.old (exec self.old.world self.old.mode words.now)) }
-        ensures mode { self.new.mode ≡ self.old.mode }
-        ensures err { OnErr result (self.new.effects ≡ []) }
-        ensures emptied { OnErr result (self.new.world.store ≡ finite.empty) }
-    {
-        commands_keep_the_world();
-        match carry_out(
-            self.alloc,
-            &mut self.space,
-            &self.ctx,
-            self.mode,
-            words,
-            &mut self.draws,
-            &mut self.effects,
-        ) {
-            Ok(reply) => Ok(reply),
-            Err(NoMemory) => {
-                self.space.clear();
-                self.effects = Effects::new(self.alloc);
-                Err(NoMemory)
-            }
-        }
-    }
-
     /// Takes the records of what was done since they were last taken.
     pub fn take_effects(&mut self) -> Effects
         ensures taken { result ≡ self.old.effects }
         ensures left { self.new ≡ record self.old { effects = [] } }
     {
-        std::mem::replace(&mut self.effects, Effects::new(self.alloc))
+        let none = Effects::new(self.space.alloc());
+        std::mem::replace(&mut self.effects, none)
+    }
+}
+
+/// Carries out one command at a desk, or refuses it: its reply is the fault then, and nothing is done. Adds the records
+/// of what it did. After `NoMemory` the store is empty, and no records are kept.
+pub fn exec(desk: &mut Desk, words: &Words) -> Result<Reply, NoMemory>
+    ensures reply { IfOk result (λ reply. reply ≡ (exec desk.old.world desk.old.mode words.now).reply) }
+    ensures desk { OnOk result (desk.new ≡ worked desk.old (exec desk.old.world desk.old.mode words.now)) }
+    ensures mode { desk.new.mode ≡ desk.old.mode }
+    ensures err { OnErr result (desk.new.effects ≡ []) }
+    ensures emptied { OnErr result (desk.new.world.store ≡ finite.empty) }
+{
+    commands_keep_the_world();
+    match carry_out(
+        &mut desk.space,
+        &desk.ctx,
+        desk.mode,
+        words,
+        &mut desk.draws,
+        &mut desk.effects,
+    ) {
+        Ok(reply) => Ok(reply),
+        Err(NoMemory) => {
+            desk.space.clear();
+            desk.effects = Effects::new(desk.space.alloc());
+            Err(NoMemory)
+        }
     }
 }

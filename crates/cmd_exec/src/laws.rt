@@ -2,6 +2,7 @@ ghost use Rattle.std.specs.Prelude.{◌≡◌, ◌≢◌, ◌↔◌, ℕ, ◌≤
 ghost use Rattle.std.specs.FinMap as finite;
 ghost use Rattle.resp_reply.specs.declared.reply.Reply.{Reply};
 ghost use Rattle.cmd_args.specs.declared.commands.CmdId.{CmdId};
+ghost use Rattle.cmd_args.specs.declared.commands.ServerCmd.{ServerCmd};
 ghost use Rattle.cmd_args.specs.declared.commands.Row.{Row};
 ghost use Rattle.cmd_args.specs.declared.refusal.Refusal.{Refusal};
 ghost use Rattle.cmd_args.specs.declared.turn.Mode.{Mode};
@@ -11,17 +12,15 @@ ghost use Rattle.cmd_args.specs.Table.{row_named, fits};
 ghost use Rattle.fx_record.specs.Records.{applied};
 ghost use Rattle.cmd_rows.specs.Bounds.{AreTimelyWithin};
 ghost use Rattle.cmd_rows.specs.Outcomes.{refused};
-ghost use Rattle.cmd_keys.specs.Laws.{KeepsKeys};
-ghost use Rattle.cmd_exec.specs.Worlds.{World, IsWorld, begun, moved_by, empty_world};
+ghost use Rattle.cmd_rows.specs.Worlds.{World};
+ghost use Rattle.cmd_exec.specs.Worlds.{IsWorld, begun, moved_by, empty_world};
 ghost use Rattle.cmd_exec.specs.Exec.{reason, exec};
 
 use cmd_keys::{
     a_fault_does_nothing_to_keys, each_command_on_keys_has_a_row, key_records_are_within,
-    other_keys_are_as_they_were,
 };
 use cmd_string::{
-    a_fault_does_nothing_to_strings, each_command_on_strings_has_a_row, other_keys_stay,
-    string_records_are_within,
+    a_fault_does_nothing_to_strings, each_command_on_strings_has_a_row, string_records_are_within,
 };
 use fx_record::{
     records_keep_to_the_limits, records_keep_to_the_time, settled_records_lead_to_the_same_store,
@@ -60,7 +59,7 @@ pub fn a_refused_command_does_nothing()
         → exec world mode (name ∷ words) ≡ refused (Refusal.UnknownCommand (shown name)) }
     ensures word_count { (world : World) (mode : Mode) (name : List ℕ) (words : List (List ℕ)) (row : Row)
         → row_named name ≡ Some row
-        → fits row (length (name ∷ words)) ≡ false
+        → fits row (name ∷ words) ≡ false
         → exec world mode (name ∷ words) ≡ refused (Refusal.WordCount row.id) }
     ensures reasons { (world : World) (mode : Mode) (name : List ℕ) (words : List (List ℕ)) (row : Row)
         (why : Refusal) → row_named name ≡ Some row
@@ -71,11 +70,10 @@ pub fn a_refused_command_does_nothing()
 }
 
 /// Each command of the table has a row: with the fewest words that it takes, and so without options, none is a syntax
-/// error. QUIT alone has none: it is the server's own, which shuts the client.
+/// error. A command that clients alone may send, as QUIT, is the server's own and is refused here.
 pub fn each_command_has_a_row()
     ensures { (world : World) (mode : Mode) (name : List ℕ) (words : List (List ℕ)) (row : Row)
-        → row_named name ≡ Some row → row.id ≢ CmdId.Quit
-        → length (name ∷ words) ≡ row.least
+        → row_named name ≡ Some row → length (name ∷ words) ≡ row.least
         → (exec world mode (name ∷ words)).reply ≢ Reply.Fault (refusal_text Refusal.Syntax) }
 {
     each_command_on_strings_has_a_row();
@@ -86,11 +84,12 @@ pub fn each_command_has_a_row()
 /// FLUSHDB name none and take all. What a command names goes by the places of its words.
 pub fn commands_leave_other_keys()
     ensures { (world : World) (mode : Mode) (name : List ℕ) (words : List (List ℕ)) (row : Row) (key : List ℕ)
-        → row_named name ≡ Some row → KeepsKeys row.id
+        → row_named name ≡ Some row → row.id ≢ CmdId.Server ServerCmd.FlushAll
+        → row.id ≢ CmdId.Server ServerCmd.FlushDb
         → ¬ (Contains (keys_named row.id (name ∷ words)) key)
         → finite.get (moved_by world (exec world mode (name ∷ words))).store key ≡ finite.get world.store key }
 {
-    other_keys_stay();
-    other_keys_are_as_they_were();
+    cmd_string::other_keys_stay();
+    cmd_keys::other_keys_stay();
     settled_records_lead_to_the_same_store();
 }

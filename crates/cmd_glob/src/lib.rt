@@ -8,8 +8,6 @@ mod matching;
 mod parsing;
 mod part;
 mod symbol;
-#[cfg(test)]
-mod tests;
 
 pub use glob::Glob;
 pub use laws::{

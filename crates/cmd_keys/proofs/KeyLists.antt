@@ -1,20 +1,17 @@
 -- The keys of a store, by their places and by a pattern.
-use Rattle.std.proofs.Common.{◌≡◌, ◌↔◌, ℕ, T, ◌&&◌, ◌||◌, ◌⊎◌, inl, inr, IsSome, ◌<◌, ◌≤◌, Bool, true, false, cond}
-use Rattle.std.proofs.Common.{List, [], ◌∷◌, length, map, filter, slice_get, get_or, None, refl, sym, ap, ◌∙◌, arith}
+use Rattle.std.proofs.Common.{◌≡◌, ◌↔◌, ℕ, ◌||◌, ◌⊎◌, inl, inr, IsSome, ◌<◌, ◌≤◌, Bool, true, false, cond}
+use Rattle.std.proofs.Common.{List, [], ◌∷◌, length, map, filter, get_or, refl, sym, ap, ◌∙◌, arith}
 use Rattle.std.proofs.lemmas.List.{length-map}
 use Rattle.std.proofs.lemmas.Option.{slice_get-get_or, slice_get_past}
 use Rattle.std.proofs.lemmas.List.Kept.{IsStrictlySortedBy-filter}
 use Rattle.std.proofs.lemmas.List.Elements.{Contains-get_or}
 use Rattle.std.proofs.lemmas.Map.Views.{list_any-from_Contains, Contains-from_any}
 use Rattle.std.proofs.lemmas.Bool.{or_cases, false≢true}
-use Rattle.std.specs.List.{AllByRecursion, Contains, list_any}
+use Rattle.std.specs.List.{Contains, list_any}
 use Rattle.std.specs.List.Sorted.{IsStrictlySortedBy}
-use Rattle.std.specs.Ordering.{eq_by_cmp, is_lt}
+use Rattle.std.specs.Ordering.{eq_by_cmp}
 use Rattle.std.specs.Cmp.{Equal-is, eq_by_cmp_equiv}
-use Rattle.std.specs.declared.cmp.Ordering.{Ordering}
-use Rattle.std.specs.declared.cmp.Ordering.TheVariants.{Less, Equal, Greater}
 use Rattle.std.specs.FinMap as finite
-use Rattle.std.specs.FinMap.Entries.{is_sorted, below_all}
 use Rattle.resp_reply.specs.declared.reply.Reply.TheVariants.{Bulk, NullBulk}
 use Rattle.ks_space.specs.declared.entry.Entry.{Entry}
 use Rattle.ks_space.specs.Store.{bytes_cmp, Store}
@@ -22,22 +19,26 @@ use Rattle.ks_space.proofs.KeyLists.{keys_sorted}
 use Rattle.ks_tree.proofs.ByteOrder.{bytes_total, bytes_exact}
 use Rattle.cmd_glob.specs.Matching.{Matches}
 use Rattle.cmd_glob.specs.Patterns.{parts_of}
+use Rattle.cmd_args.specs.declared.commands.KeyCmd.TheVariants.{Keys, RandomKey}
 use Rattle.cmd_args.specs.Draws.{drawn_place}
-use Rattle.cmd_rows.specs.Outcomes.{answers}
+use Rattle.cmd_rows.specs.Outcomes.{array, answers}
+use Rattle.cmd_rows.specs.Worlds.{World}
 use Rattle.cmd_keys.specs.Globs.{is_match}
 use Rattle.cmd_keys.specs.KeyRows.{drawn_key, randomkey_row, keys_matching}
+use Rattle.cmd_keys.specs.KeyRows.{key_row}
 use Rattle.cmd_keys.proofs.Matching.{match-sound, match-complete}
 
 pub length-keys : (store : Store) → length (finite.keys store) ≡ finite.len store
 length-keys store = length-map (finite.entries store) (λ (e : List ℕ × Entry). e.0) ∙ sym (finite.len-entries store)
 
-pub randomkey-none : (store : Store) (draws : ℕ) → finite.len store ≡ 0 → randomkey_row store draws ≡ answers NullBulk
-randomkey-none store draws none =
-    let keys = length-keys store in
-    ap drawn_key (slice_get_past (finite.keys store) (drawn_place (finite.len store) draws) (omega arith))
+pub randomkey-none : (world : World) → finite.len world.store ≡ 0 → randomkey_row world ≡ answers NullBulk
+randomkey-none world none =
+    let keys = length-keys world.store in
+    ap drawn_key (slice_get_past (finite.keys world.store) (drawn_place (finite.len world.store) world.draws)
+    (omega arith))
 
 -- the keys ascend
-pub keys_ordered : (store : Store) (pattern : List ℕ) → IsStrictlySortedBy bytes_cmp (keys_matching store pattern)
+keys_ordered : (store : Store) (pattern : List ℕ) → IsStrictlySortedBy bytes_cmp (keys_matching store pattern)
 keys_ordered store pattern = IsStrictlySortedBy-filter bytes_cmp (is_match (parts_of pattern)) (finite.keys store)
     (keys_sorted (finite.entries store) (finite.entries_sorted store))
 
@@ -88,7 +89,7 @@ passed p (k ∷ keys) q pass h = by_test (p k) refl
     by_test false is (inl same) later = absurd (false≢true (sym is ∙ ap p (sym (is_same q k same)) ∙ pass))
     by_test false is (inr rest) later = later rest
 
-pub keys_listed : (store : Store) (pattern key : List ℕ)
+keys_listed : (store : Store) (pattern key : List ℕ)
     → Contains (keys_matching store pattern) key ↔ (IsSome (finite.get store key) × Matches (parts_of pattern) key)
 keys_listed store pattern key = (
   λ h. (let found = passes (is_match (parts_of pattern)) (finite.keys store) key
@@ -100,11 +101,12 @@ keys_listed store pattern key = (
       (sym (finite.contains_key-keys store key) ∙ h.0)),
 )
 
-pub randomkey_some : (store : Store) (draws : ℕ) → 1 ≤ finite.len store
-    → (key : List ℕ) × ((randomkey_row store draws).reply ≡ Bulk key) × IsSome (finite.get store key)
-    × ((randomkey_row store draws).draws ≡ 1)
-randomkey_some store draws some =
-    let place = drawn_place (finite.len store) draws in
+randomkey_some : (world : World) → 1 ≤ finite.len world.store
+    → (key : List ℕ) × ((randomkey_row world).reply ≡ Bulk key) × IsSome (finite.get world.store key)
+    × ((randomkey_row world).draws ≡ 1)
+randomkey_some world some =
+    let store = world.store in
+    let place = drawn_place (finite.len store) world.draws in
     let keys = length-keys store in
     let within : place < length (finite.keys store) = omega arith in
     let key = get_or (finite.keys store) place [] in
@@ -117,11 +119,26 @@ randomkey_some store draws some =
       ap (λ o. (drawn_key o).draws) there,
     )
 
-pub randomkey_empty : (draws : ℕ) → randomkey_row finite.empty draws ≡ answers NullBulk
-randomkey_empty draws = randomkey-none finite.empty draws (finite.len-empty bytes_cmp Entry)
+pub keys-listed : (world : World) (name pattern : List ℕ)
+    → (keys : List (List ℕ)) × (key_row world Keys (name ∷ pattern ∷ []) ≡ answers (array (map Bulk keys)))
+    × ((key : List ℕ) → Contains keys key ↔ (IsSome (finite.get world.store key) × Matches (parts_of pattern) key))
+    × IsStrictlySortedBy bytes_cmp keys
+unfolding key_row
+keys-listed world name pattern = (
+  keys_matching world.store pattern,
+  refl,
+  keys_listed world.store pattern,
+  keys_ordered world.store pattern,
+)
 
--- where there is a key, one draw is taken
-pub drawn-one : (store : Store) (count draws : ℕ) → count ≡ finite.len store → (count ≡ 0 → ⊥)
-    → (randomkey_row store draws).draws ≡ 1
-drawn-one store count draws counted some = let at_least : 1 ≤ finite.len store = omega arith in
-    (randomkey_some store draws at_least).3
+pub randomkey-some : (world : World) (name : List ℕ) → 1 ≤ finite.len world.store
+    → (key : List ℕ) × ((key_row world RandomKey (name ∷ [])).reply ≡ Bulk key)
+    × IsSome (finite.get world.store key) × ((key_row world RandomKey (name ∷ [])).draws ≡ 1)
+unfolding key_row
+randomkey-some world name some = randomkey_some world some
+
+pub randomkey-empty : (world : World) (name : List ℕ) → world.store ≡ finite.empty
+    → key_row world RandomKey (name ∷ []) ≡ answers NullBulk
+unfolding key_row
+randomkey-empty world name empty =
+    randomkey-none world (ap (λ (s : Store). finite.len s) empty ∙ finite.len-empty bytes_cmp Entry)

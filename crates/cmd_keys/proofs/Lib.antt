@@ -1,8 +1,10 @@
-pub mod Leaving
-pub mod Records
-pub mod Within
 pub mod Matching
-pub mod RowLaws
-pub mod Keeping
 pub mod KeyLists
-pub mod RowEnds
+pub mod Leaving
+pub mod ServerWalk
+pub mod KeyWalk
+pub mod Within
+pub mod WalkLaws
+pub mod ServerLaws
+pub mod DelLaws
+pub mod RowLaws

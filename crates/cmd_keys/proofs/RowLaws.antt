@@ -1,239 +1,336 @@
--- What renaming and expiring leave, key by key.
-use Rattle.std.proofs.Common.{◌≡◌, ◌≢◌, ℕ, ◌+◌, ◌-◌, ◌*◌, ◌/◌, ◌<◌, ◌≤◌, ◌^◌, Bool, true, false, cond, ℤ, pos, negsuc}
-use Rattle.std.proofs.Common.{List, [], ◌∷◌, Option, Some, None, option_and_then, Ok, Err, refl, sym, ap, subst, ◌∙◌}
-use Rattle.std.proofs.Common.{arith}
+-- What renaming and expiring leave, key by key, and what is told of a deadline.
+use Rattle.std.proofs.Common.{◌≡◌, ◌≢◌, ℕ, ◌+◌, ◌-◌, ◌*◌, ◌/◌, ◌<◌, ◌≤◌, ◌^◌, Bool, true, false, cond, ℤ, pos}
+use Rattle.std.proofs.Common.{negsuc, List, [], ◌∷◌, Option, Some, None, option_and_then, Ok, Err, refl, sym}
+use Rattle.std.proofs.Common.{ap, subst, ◌∙◌, arith}
 use Rattle.std.proofs.lemmas.Bool.{lt-ltb, le-leb, lt-leb}
 use Rattle.std.specs.Option.{is_some}
 use Rattle.std.specs.FinMap as finite
 use Rattle.resp_reply.specs.declared.reply.Reply.TheVariants.{Int}
 use Rattle.ks_space.specs.declared.entry.Entry.{Entry}
-use Rattle.ks_space.specs.Store.{Store, deadline_at}
+use Rattle.ks_space.specs.Store.{deadline_at}
 use Rattle.fx_record.specs.declared.record.Record.{Record}
 use Rattle.fx_record.specs.declared.record.Record.TheVariants.{Del, ExpireAt, Persist, Rename}
 use Rattle.fx_record.specs.Records.{applied, ChangesOnly, Moves}
 use Rattle.fx_record.proofs.RecordLaws.{removed, expired, moves, renamed_itself}
-use Rattle.cmd_args.specs.declared.commands.CmdId.{CmdId}
+use Rattle.cmd_args.specs.declared.commands.CmdId.TheVariants.{Keys}
+use Rattle.cmd_args.specs.declared.commands.KeyCmd.{KeyCmd}
+use Rattle.cmd_args.specs.declared.commands.KeyCmd.TheVariants as cmd
 use Rattle.cmd_args.specs.declared.refusal.Refusal.{Refusal}
-use Rattle.cmd_args.specs.declared.refusal.Refusal.TheVariants.{NoSuchKey}
+use Rattle.cmd_args.specs.declared.refusal.Refusal.TheVariants.{NoSuchKey, ExpireTime}
 use Rattle.cmd_rows.specs.declared.times.Expiry.{Expiry}
-use Rattle.cmd_rows.specs.declared.times.Expiry.TheVariants.{InSeconds, InMillis}
+use Rattle.cmd_rows.specs.declared.times.Expiry.TheVariants.{InSeconds, InMillis, AtSecond, AtMillis}
+use Rattle.cmd_rows.specs.Worlds.{World}
 use Rattle.cmd_rows.specs.Numbers.{is_within_64, number}
 use Rattle.cmd_rows.specs.Times.{moment, expire_time, expire_at}
-use Rattle.cmd_rows.specs.Outcomes.{Outcome, ok, answers, does, refused, with_found}
+use Rattle.cmd_rows.specs.Outcomes.{Outcome, ok, answers, does, refused, with_found, left_by}
 use Rattle.cmd_keys.specs.declared.expiring.Asked.{Asked}
-use Rattle.cmd_keys.specs.declared.expiring.Asked.TheVariants.{MillisLeft, SecondsLeft}
-use Rattle.cmd_keys.specs.KeyRows.{is_there, rename_row, renamenx_row}
-use Rattle.cmd_keys.specs.DeadlineRows.{expire_by, expire_row, persist_row, deadline_row, told_in, told_of, told}
-use Rattle.cmd_keys.specs.Laws.{left_by}
+use Rattle.cmd_keys.specs.declared.expiring.Asked.TheVariants.{MillisLeft, SecondsLeft, Millisecond, Second}
+use Rattle.cmd_keys.specs.KeyRows.{is_there}
+use Rattle.cmd_keys.specs.KeyRows.{expire_row, deadline_row, told_in, told_of, told}
+use Rattle.cmd_keys.specs.KeyRows.{key_row}
+use Rattle.cmd_keys.specs.Laws.{Means, TellsDeadline, ChangesKey}
 
-module _ (store : Store) (from to : List ℕ) where
-  pub rename_row-there : (entry : Entry) → finite.get store from ≡ Some entry
-      → rename_row store from to ≡ does ok (Rename from to ∷ [])
-  rename_row-there entry there = ap (λ t. cond t (does ok (Rename from to ∷ [])) (refused NoSuchKey)) (ap is_some there)
+-- RENAME and RENAMENX
+module _ (world : World) (name from to : List ℕ) where
+  rename-there : (entry : Entry) → finite.get world.store from ≡ Some entry
+      → key_row world cmd.Rename (name ∷ from ∷ to ∷ []) ≡ does ok (Rename from to ∷ [])
+  unfolding key_row
+  rename-there entry there = ap (λ t. cond t (does ok (Rename from to ∷ [])) (refused NoSuchKey)) (ap is_some there)
 
-  pub rename_row-absent : finite.get store from ≡ None → rename_row store from to ≡ refused NoSuchKey
-  rename_row-absent absent = ap (λ t. cond t (does ok (Rename from to ∷ [])) (refused NoSuchKey)) (ap is_some absent)
+  pub rename-absent : finite.get world.store from ≡ None
+      → key_row world cmd.Rename (name ∷ from ∷ to ∷ []) ≡ refused NoSuchKey
+  unfolding key_row
+  rename-absent absent = ap (λ t. cond t (does ok (Rename from to ∷ [])) (refused NoSuchKey)) (ap is_some absent)
 
-  pub rename_moves : (entry : Entry) → from ≢ to → finite.get store from ≡ Some entry
-      → Moves store (left_by store (rename_row store from to)) from to entry
+  pub rename_moves : (entry : Entry) → from ≢ to → finite.get world.store from ≡ Some entry
+      → Moves world.store (left_by world.store (key_row world cmd.Rename (name ∷ from ∷ to ∷ []))) from to entry
   rename_moves entry apart there =
-      subst (λ s. Moves store s from to entry) (sym (ap (left_by store) (rename_row-there entry there)))
-      (moves store from to entry apart there)
+      subst (λ s. Moves world.store s from to entry) (sym (ap (left_by world.store) (rename-there entry there)))
+      (moves world.store from to entry apart there)
 
-  pub rename_answers : (entry : Entry) → finite.get store from ≡ Some entry → (rename_row store from to).reply ≡ ok
-  rename_answers entry there = ap (λ (o : Outcome). o.reply) (rename_row-there entry there)
+  pub rename_answers : (entry : Entry) → finite.get world.store from ≡ Some entry
+      → (key_row world cmd.Rename (name ∷ from ∷ to ∷ [])).reply ≡ ok
+  rename_answers entry there = ap (λ (o : Outcome). o.reply) (rename-there entry there)
 
-  chosen : Outcome → Outcome
-  chosen inner = cond (is_there store from) inner (refused NoSuchKey)
+  renamenx-by : (found : Option Entry) → finite.get world.store from ≡ found
+      → key_row world cmd.RenameNx (name ∷ from ∷ to ∷ []) ≡ cond (is_some found)
+      (cond (is_there world.store to) (answers (Int (pos 0))) (does (Int (pos 1)) (Rename from to ∷ [])))
+      (refused NoSuchKey)
+  unfolding key_row
+  renamenx-by found is =
+      ap (λ (o : Option Entry). cond (is_some o)
+      (cond (is_there world.store to) (answers (Int (pos 0))) (does (Int (pos 1)) (Rename from to ∷ [])))
+      (refused NoSuchKey)) is
 
-  pub renamenx_row-absent : finite.get store from ≡ None → renamenx_row store from to ≡ refused NoSuchKey
-  renamenx_row-absent absent =
-      ap (λ t. cond t (cond (is_there store to) (answers (Int (pos 0))) (does (Int (pos 1)) (Rename from to ∷ [])))
-      (refused NoSuchKey)) (ap is_some absent)
+  pub renamenx-absent : finite.get world.store from ≡ None
+      → key_row world cmd.RenameNx (name ∷ from ∷ to ∷ []) ≡ refused NoSuchKey
+  renamenx-absent absent = renamenx-by None absent
 
-  renamenx_row-from : (entry : Entry) → finite.get store from ≡ Some entry
-      → renamenx_row store from to ≡ cond (is_there store to) (answers (Int (pos 0)))
-      (does (Int (pos 1)) (Rename from to ∷ []))
-  renamenx_row-from entry there =
-      ap (λ t. cond t (cond (is_there store to) (answers (Int (pos 0))) (does (Int (pos 1)) (Rename from to ∷ [])))
-      (refused NoSuchKey)) (ap is_some there)
-
-  pub renamenx_row-there : (entry other : Entry) → finite.get store from ≡ Some entry
-      → finite.get store to ≡ Some other → renamenx_row store from to ≡ answers (Int (pos 0))
-  renamenx_row-there entry other there taken =
-      renamenx_row-from entry there ∙ ap
+  pub renamenx-there : (entry other : Entry) → finite.get world.store from ≡ Some entry
+      → finite.get world.store to ≡ Some other
+      → key_row world cmd.RenameNx (name ∷ from ∷ to ∷ []) ≡ answers (Int (pos 0))
+  renamenx-there entry other there taken =
+      renamenx-by (Some entry) there ∙ ap
       (λ t. cond t (answers (Int (pos 0))) (does (Int (pos 1)) (Rename from to ∷ []))) (ap is_some taken)
 
-  renamenx_row-free : (entry : Entry) → finite.get store from ≡ Some entry → finite.get store to ≡ None
-      → renamenx_row store from to ≡ does (Int (pos 1)) (Rename from to ∷ [])
-  renamenx_row-free entry there free =
-      renamenx_row-from entry there ∙ ap
+  renamenx-free : (entry : Entry) → finite.get world.store from ≡ Some entry → finite.get world.store to ≡ None
+      → key_row world cmd.RenameNx (name ∷ from ∷ to ∷ []) ≡ does (Int (pos 1)) (Rename from to ∷ [])
+  renamenx-free entry there free =
+      renamenx-by (Some entry) there ∙ ap
       (λ t. cond t (answers (Int (pos 0))) (does (Int (pos 1)) (Rename from to ∷ []))) (ap is_some free)
 
-  pub renamenx_moves : (entry : Entry) → finite.get store from ≡ Some entry → finite.get store to ≡ None
-      → ((renamenx_row store from to).reply ≡ Int (pos 1))
-      × Moves store (left_by store (renamenx_row store from to)) from to entry
+  pub renamenx_moves : (entry : Entry) → finite.get world.store from ≡ Some entry → finite.get world.store to ≡ None
+      → ((key_row world cmd.RenameNx (name ∷ from ∷ to ∷ [])).reply ≡ Int (pos 1))
+      × Moves world.store (left_by world.store (key_row world cmd.RenameNx (name ∷ from ∷ to ∷ []))) from to entry
   renamenx_moves entry there free = (
-    ap (λ (o : Outcome). o.reply) (renamenx_row-free entry there free),
-    subst (λ s. Moves store s from to entry) (sym (ap (left_by store) (renamenx_row-free entry there free)))
-        (moves store from to entry apart there),
+    ap (λ (o : Outcome). o.reply) (renamenx-free entry there free),
+    subst (λ s. Moves world.store s from to entry)
+        (sym (ap (left_by world.store) (renamenx-free entry there free)))
+        (moves world.store from to entry apart there),
   )
     where
       apart : from ≢ to
-      apart same = let gone : finite.get store from ≡ None = ap (finite.get store) same ∙ free in absurd (cc)
+      apart same = let gone : finite.get world.store from ≡ None = ap (finite.get world.store) same ∙ free in
+          absurd (cc)
 
-pub rename_itself : (store : Store) (key : List ℕ) → left_by store (rename_row store key key) ≡ store
-rename_itself store key = by_there (is_there store key)
+pub rename_itself : (world : World) (name key : List ℕ)
+    → left_by world.store (key_row world cmd.Rename (name ∷ key ∷ key ∷ [])) ≡ world.store
+unfolding key_row
+rename_itself world name key = by_there (is_there world.store key)
   where
-    by_there : (b : Bool) → left_by store (cond b (does ok (Rename key key ∷ [])) (refused NoSuchKey)) ≡ store
-    by_there true = renamed_itself store key
+    by_there : (b : Bool) → left_by world.store (cond b (does ok (Rename key key ∷ [])) (refused NoSuchKey))
+        ≡ world.store
+    by_there true = renamed_itself world.store key
     by_there false = refl
 
--- a key that is there, a number, and a time within 64 bits
-expired_row : (store : Store) (command : CmdId) (kind : Expiry) (now : ℕ) (key word : List ℕ) (n at : ℤ)
-    (entry : Entry) → number word ≡ Ok n → moment kind now n ≡ at → is_within_64 at ≡ true
-    → finite.get store key ≡ Some entry
-    → expire_row store command kind now key word ≡ does (Int (pos 1)) (expire_at key now at ∷ [])
-expired_row store command kind now key word n at entry read time within there =
-    ap (λ r. with_found r timed) read
-    ∙ ap (λ (z : ℤ). with_found (cond (is_within_64 z) (Ok z) (Err (Refusal.ExpireTime command))) done) time
-    ∙ ap (λ t. with_found (cond t (Ok at) (Err (Refusal.ExpireTime command))) done) within
-    ∙ ap (λ t. cond t (does (Int (pos 1)) (expire_at key now at ∷ [])) (answers (Int (pos 0)))) (ap is_some there)
+-- EXPIRE and its kin: each reads its number in its own unit
+units : (world : World) (id : KeyCmd) (name key word : List ℕ) (n at : ℤ) → Means id world.time n at
+    → (kind : Expiry) × (key_row world id (name ∷ key ∷ word ∷ []) ≡ expire_row world id kind key word)
+    × (moment kind world.time n ≡ at)
+unfolding key_row
+units world cmd.Expire name key word n at means = (InSeconds, refl, means)
+units world cmd.PExpire name key word n at means = (InMillis, refl, means)
+units world cmd.ExpireAt name key word n at means = (AtSecond, refl, means)
+units world cmd.PExpireAt name key word n at means = (AtMillis, refl, means)
+units world _ name key word n at means = absurd means
+
+-- where the number is read, and where it is none
+abbrev timed : World → KeyCmd → Expiry → List ℕ → ℤ → Outcome
+timed world id kind key n =
+    with_found (expire_time (Keys id) kind world.time n)
+    (λ at. cond (is_there world.store key) (does (Int (pos 1)) (expire_at key world.time at ∷ []))
+    (answers (Int (pos 0))))
+
+module _ (world : World) (id : KeyCmd) (name key word : List ℕ) where
+  abbrev expires : ℤ → Outcome
+  expires at = cond (is_there world.store key) (does (Int (pos 1)) (expire_at key world.time at ∷ []))
+      (answers (Int (pos 0)))
+
+  pub expire-no_integer : (n at : ℤ) (why : Refusal) → Means id world.time n at → number word ≡ Err why
+      → key_row world id (name ∷ key ∷ word ∷ []) ≡ refused why
+  expire-no_integer n at why means none =
+      let unit = units world id name key word n at means in
+      unit.1 ∙ ap (λ r. with_found r (timed world id unit.0 key)) none
+
+  module _ (n at : ℤ) (read : number word ≡ Ok n) (means : Means id world.time n at) where
+    expire-tested : key_row world id (name ∷ key ∷ word ∷ [])
+        ≡ with_found (cond (is_within_64 at) (Ok at) (Err (ExpireTime (Keys id)))) expires
+    expire-tested =
+        let unit = units world id name key word n at means in
+        unit.1 ∙ ap (λ r. with_found r (timed world id unit.0 key)) read
+        ∙ ap (λ (z : ℤ). with_found (cond (is_within_64 z) (Ok z) (Err (ExpireTime (Keys id)))) expires) unit.2
+
+    pub expire-out_of_range : is_within_64 at ≡ false
+        → key_row world id (name ∷ key ∷ word ∷ []) ≡ refused (ExpireTime (Keys id))
+    expire-out_of_range out =
+        expire-tested ∙ ap (λ t. with_found (cond t (Ok at) (Err (ExpireTime (Keys id)))) expires) out
+
+    expire-within : is_within_64 at ≡ true → key_row world id (name ∷ key ∷ word ∷ []) ≡ expires at
+    expire-within within =
+        expire-tested ∙ ap (λ t. with_found (cond t (Ok at) (Err (ExpireTime (Keys id)))) expires) within
+
+    pub expire-absent : is_within_64 at ≡ true → finite.get world.store key ≡ None
+        → key_row world id (name ∷ key ∷ word ∷ []) ≡ answers (Int (pos 0))
+    expire-absent within absent =
+        expire-within within
+        ∙ ap (λ t. cond t (does (Int (pos 1)) (expire_at key world.time at ∷ [])) (answers (Int (pos 0))))
+        (ap is_some absent)
+
+    expire-changes : (done : Record) (left : Option Entry) (entry : Entry) → is_within_64 at ≡ true
+        → finite.get world.store key ≡ Some entry → expire_at key world.time at ≡ done
+        → ChangesOnly world.store (applied world.store (done ∷ [])) key left
+        → ChangesKey world.store (key_row world id (name ∷ key ∷ word ∷ [])) key left
+    expire-changes done left entry within there is changes =
+        let row : key_row world id (name ∷ key ∷ word ∷ []) ≡ does (Int (pos 1)) (done ∷ []) =
+        expire-within within
+        ∙ ap (λ t. cond t (does (Int (pos 1)) (expire_at key world.time at ∷ [])) (answers (Int (pos 0))))
+        (ap is_some there) ∙ ap (λ r. does (Int (pos 1)) (r ∷ [])) is in
+        subst (λ (o : Outcome). ChangesKey world.store o key left) (sym row)
+        (record { reply_is = refl; changes = changes })
+
+  pub expire-later : (n : ℤ) (at : ℕ) (entry : Entry) → number word ≡ Ok n → Means id world.time n (pos at)
+      → at < 2 ^ 63 → world.time < at → finite.get world.store key ≡ Some entry
+      → ChangesKey world.store (key_row world id (name ∷ key ∷ word ∷ [])) key
+      (Some (record entry { deadline = Some at }))
+  expire-later n at entry read means fits later there =
+      expire-changes n (pos at) read means (ExpireAt key at) (Some (record entry { deadline = Some at })) entry
+      (lt-ltb at (2 ^ 63) fits) there
+      (ap (λ t. cond t (Del key) (ExpireAt key at)) (lt-leb at world.time later))
+      (expired world.store key (Some at) entry there)
+
+  pub expire-at_once : (n : ℤ) (at : ℕ) (entry : Entry) → number word ≡ Ok n → Means id world.time n (pos at)
+      → at < 2 ^ 63 → at ≤ world.time → finite.get world.store key ≡ Some entry
+      → ChangesKey world.store (key_row world id (name ∷ key ∷ word ∷ [])) key None
+  expire-at_once n at entry read means fits past there =
+      expire-changes n (pos at) read means (Del key) None entry (lt-ltb at (2 ^ 63) fits) there
+      (ap (λ t. cond t (Del key) (ExpireAt key at)) (le-leb at world.time past)) (removed world.store key)
+
+  pub expire-before : (n : ℤ) (m : ℕ) (entry : Entry) → number word ≡ Ok n → Means id world.time n (negsuc m)
+      → m < 2 ^ 63 → finite.get world.store key ≡ Some entry
+      → ChangesKey world.store (key_row world id (name ∷ key ∷ word ∷ [])) key None
+  expire-before n m entry read means fits there =
+      expire-changes n (negsuc m) read means (Del key) None entry (lt-ltb m (2 ^ 63) fits) there refl
+      (removed world.store key)
+
+-- PERSIST
+module _ (world : World) (name key : List ℕ) where
+  persist-by : (due : Option ℕ) → deadline_at world.store key ≡ due
+      → key_row world cmd.Persist (name ∷ key ∷ []) ≡ cond (is_some due) (does (Int (pos 1)) (Persist key ∷ []))
+      (answers (Int (pos 0)))
+  unfolding key_row
+  persist-by due is =
+      ap (λ (o : Option ℕ). cond (is_some o) (does (Int (pos 1)) (Persist key ∷ [])) (answers (Int (pos 0)))) is
+
+  pub persist-none : deadline_at world.store key ≡ None
+      → key_row world cmd.Persist (name ∷ key ∷ []) ≡ answers (Int (pos 0))
+  persist-none none = persist-by None none
+
+  pub persist-had : (entry : Entry) (at : ℕ) → finite.get world.store key ≡ Some entry → entry.deadline ≡ Some at
+      → ChangesKey world.store (key_row world cmd.Persist (name ∷ key ∷ [])) key
+      (Some (record entry { deadline = None }))
+  persist-had entry at there due =
+      let found : deadline_at world.store key ≡ Some at =
+      ap (option_and_then (λ (e : Entry). e.deadline)) there ∙ due in
+      subst (λ (o : Outcome). ChangesKey world.store o key (Some (record entry { deadline = None })))
+      (sym (persist-by (Some at) found))
+      (record { reply_is = refl; changes = expired world.store key None entry there })
+
+-- what is told of a deadline
+told-due : (world : World) (asked : Asked) (key : List ℕ) (at : ℕ) → deadline_at world.store key ≡ Some at
+    → deadline_row world asked key ≡ answers (Int (pos (told asked world.time at)))
+told-due world asked key at due = by_entry (finite.get world.store key) due
   where
-    done : ℤ → Outcome
-    done z = cond (is_there store key) (does (Int (pos 1)) (expire_at key now z ∷ [])) (answers (Int (pos 0)))
+    by_entry : (found : Option Entry) → option_and_then (λ (e : Entry). e.deadline) found ≡ Some at
+        → answers (Int (told_in asked world.time found)) ≡ answers (Int (pos (told asked world.time at)))
+    by_entry None none = absurd (cc)
+    by_entry (Some entry) due = ap (λ o. answers (Int (told_of asked world.time o))) due
 
-    timed : ℤ → Outcome
-    timed m = with_found (expire_time command kind now m) done
+pub asked-of : (world : World) (id : KeyCmd) (name key : List ℕ) → TellsDeadline id
+    → (asked : Asked) × (key_row world id (name ∷ key ∷ []) ≡ deadline_row world asked key)
+unfolding key_row
+asked-of world cmd.PTtl name key is = (MillisLeft, refl)
+asked-of world cmd.Ttl name key is = (SecondsLeft, refl)
+asked-of world cmd.PExpireTime name key is = (Millisecond, refl)
+asked-of world cmd.ExpireTime name key is = (Second, refl)
+asked-of world _ name key is = absurd is
 
--- what such a command leaves, by its record
-module _ (store : Store) (command : CmdId) (kind : Expiry) (now : ℕ) (key word : List ℕ) (n at : ℤ) (entry : Entry)
-    (read : number word ≡ Ok n) (time : moment kind now n ≡ at)
-    (within : is_within_64 at ≡ true) (there : finite.get store key ≡ Some entry) where
-  row_is : expire_row store command kind now key word ≡ does (Int (pos 1)) (expire_at key now at ∷ [])
-  row_is = expired_row store command kind now key word n at entry read time within there
+pub told-forever : (world : World) (id : KeyCmd) (name key : List ℕ) (entry : Entry) → TellsDeadline id
+    → finite.get world.store key ≡ Some entry → entry.deadline ≡ None
+    → key_row world id (name ∷ key ∷ []) ≡ answers (Int (negsuc 0))
+told-forever world id name key entry is there none =
+    let row = asked-of world id name key is in
+    row.1 ∙ ap (λ o. answers (Int (told_in row.0 world.time o))) there
+    ∙ ap (λ o. answers (Int (told_of row.0 world.time o))) none
 
-  pub expire_does : (done : Record) → expire_at key now at ≡ done
-      → expire_row store command kind now key word ≡ does (Int (pos 1)) (done ∷ [])
-  expire_does done is = row_is ∙ ap (λ r. does (Int (pos 1)) (r ∷ [])) is
+pub told-absent : (world : World) (id : KeyCmd) (name key : List ℕ) → TellsDeadline id
+    → finite.get world.store key ≡ None → key_row world id (name ∷ key ∷ []) ≡ answers (Int (negsuc 1))
+told-absent world id name key is absent =
+    let row = asked-of world id name key is in
+    row.1 ∙ ap (λ o. answers (Int (told_in row.0 world.time o))) absent
 
-  pub expire_leaves : (done : Record) (left : Option Entry) → expire_at key now at ≡ done
-      → ChangesOnly store (applied store (done ∷ [])) key left
-      → ((expire_row store command kind now key word).reply ≡ Int (pos 1))
-      × ChangesOnly store (left_by store (expire_row store command kind now key word)) key left
-  expire_leaves done left is changes = (
-    ap (λ (o : Outcome). o.reply) (expire_does done is),
-    subst (λ s. ChangesOnly store s key left) (sym (ap (left_by store) (expire_does done is))) changes,
+to_nearest : (millis n : ℕ) → 1000 * n ≤ millis + 500 → millis + 500 < 1000 * (n + 1) → (millis + 500) / 1000 ≡ n
+to_nearest millis n low high = omega arith
+
+module _ (world : World) (name key : List ℕ) where
+  told-as : (asked : Asked) (at n : ℕ) → deadline_at world.store key ≡ Some at → told asked world.time at ≡ n
+      → deadline_row world asked key ≡ answers (Int (pos n))
+  told-as asked at n due is = told-due world asked key at due ∙ ap (λ m. answers (Int (pos m))) is
+
+  pub ttl-left : (left n : ℕ) → deadline_at world.store key ≡ Some (world.time + left) → 1000 * n ≤ left + 500
+      → left + 500 < 1000 * (n + 1) → key_row world cmd.Ttl (name ∷ key ∷ []) ≡ answers (Int (pos n))
+  unfolding key_row
+  ttl-left left n due low high =
+      told-as SecondsLeft (world.time + left) n due
+      (to_nearest (world.time + left - world.time) n (omega arith) (omega arith))
+
+  pub pttl-left : (left : ℕ) → deadline_at world.store key ≡ Some (world.time + left)
+      → key_row world cmd.PTtl (name ∷ key ∷ []) ≡ answers (Int (pos left))
+  unfolding key_row
+  pttl-left left due = told-as MillisLeft (world.time + left) left due (omega arith)
+
+  pub ttl-past : (at : ℕ) → deadline_at world.store key ≡ Some at → at ≤ world.time
+      → (key_row world cmd.Ttl (name ∷ key ∷ []) ≡ answers (Int (pos 0)))
+      × (key_row world cmd.PTtl (name ∷ key ∷ []) ≡ answers (Int (pos 0)))
+  unfolding key_row
+  ttl-past at due past = (
+    told-as SecondsLeft at 0 due (to_nearest (at - world.time) 0 (omega arith) (omega arith)),
+    told-as MillisLeft at 0 due (omega arith),
   )
 
-expire_at-later : (key : List ℕ) (now at : ℕ) → now < at → expire_at key now (pos at) ≡ ExpireAt key at
-expire_at-later key now at later = ap (λ t. cond t (Del key) (ExpireAt key at)) (lt-leb at now later)
+  pub expiretime-due : (at n : ℕ) → deadline_at world.store key ≡ Some at → 1000 * n ≤ at + 500
+      → at + 500 < 1000 * (n + 1) → key_row world cmd.ExpireTime (name ∷ key ∷ []) ≡ answers (Int (pos n))
+  unfolding key_row
+  expiretime-due at n due low high = told-as Second at n due (to_nearest at n low high)
 
-expire_at-past : (key : List ℕ) (now at : ℕ) → at ≤ now → expire_at key now (pos at) ≡ Del key
-expire_at-past key now at past = ap (λ t. cond t (Del key) (ExpireAt key at)) (le-leb at now past)
+  pub pexpiretime-due : (at : ℕ) → deadline_at world.store key ≡ Some at
+      → key_row world cmd.PExpireTime (name ∷ key ∷ []) ≡ answers (Int (pos at))
+  unfolding key_row
+  pexpiretime-due at due = told-as Millisecond at at due refl
 
-module _ (store : Store) (command : CmdId) (kind : Expiry) (now : ℕ) (key word : List ℕ) (n : ℤ) where
-  pub expire_later : (at : ℕ) (entry : Entry) → number word ≡ Ok n → moment kind now n ≡ pos at → at < 2 ^ 63
-      → now < at → finite.get store key ≡ Some entry
-      → ((expire_row store command kind now key word).reply ≡ Int (pos 1))
-      × ChangesOnly store (left_by store (expire_row store command kind now key word)) key
-      (Some (record entry { deadline = Some at }))
-  expire_later at entry read time fits later there =
-      expire_leaves store command kind now key word n (pos at) entry read time (lt-ltb at (2 ^ 63) fits) there
-      (ExpireAt key at) (Some (record entry { deadline = Some at })) (expire_at-later key now at later)
-      (expired store key (Some at) entry there)
+-- what is told right after a deadline was given
+module _ (world : World) (n : ℕ) (name other key word : List ℕ) (entry : Entry) (read : number word ≡ Ok (pos n))
+    (there : finite.get world.store key ≡ Some entry) where
+  abbrev after : KeyCmd → World
+  after id = record world { store = left_by world.store (key_row world id (name ∷ key ∷ word ∷ [])) }
 
-  pub expire_past : (at : ℕ) (entry : Entry) → number word ≡ Ok n → moment kind now n ≡ pos at → at < 2 ^ 63
-      → at ≤ now → finite.get store key ≡ Some entry
-      → ((expire_row store command kind now key word).reply ≡ Int (pos 1))
-      × ChangesOnly store (left_by store (expire_row store command kind now key word)) key None
-  expire_past at entry read time fits past there =
-      expire_leaves store command kind now key word n (pos at) entry read time (lt-ltb at (2 ^ 63) fits) there
-      (Del key) None (expire_at-past key now at past) (removed store key)
+  given : (id : KeyCmd) (at : ℕ) → Means id world.time (pos n) (pos at) → at < 2 ^ 63 → world.time < at
+      → deadline_at (left_by world.store (key_row world id (name ∷ key ∷ word ∷ []))) key ≡ Some at
+  given id at means fits later =
+      ap (option_and_then (λ (e : Entry). e.deadline))
+      (expire-later world id name key word (pos n) at entry read means fits later there).changes.here
 
-  pub expire_before : (m : ℕ) (entry : Entry) → number word ≡ Ok n → moment kind now n ≡ negsuc m → m < 2 ^ 63
-      → finite.get store key ≡ Some entry
-      → ((expire_row store command kind now key word).reply ≡ Int (pos 1))
-      × ChangesOnly store (left_by store (expire_row store command kind now key word)) key None
-  expire_before m entry read time fits there =
-      expire_leaves store command kind now key word n (negsuc m) entry read time (lt-ltb m (2 ^ 63) fits) there
-      (Del key) None refl (removed store key)
+  pub ttl-expire : 0 < n → world.time + n * 1000 < 2 ^ 63
+      → key_row (record world {
+        store = left_by world.store
+            (key_row world cmd.Expire (name ∷ key ∷ word ∷ []));
+      }) cmd.Ttl (other ∷ key ∷ []) ≡ answers (Int (pos n))
+  ttl-expire some fits =
+      ttl-left (after cmd.Expire) other key (n * 1000) n
+      (given cmd.Expire (world.time + n * 1000) refl fits (omega arith)) (omega arith) (omega arith)
 
--- an absent key, and a time that is refused
-pub expire_answers_0 : (store : Store) (command : CmdId) (kind : Expiry) (now : ℕ) (key word : List ℕ) (n at : ℤ)
-    → number word ≡ Ok n → expire_time command kind now n ≡ Ok at → finite.get store key ≡ None
-    → expire_row store command kind now key word ≡ answers (Int (pos 0))
-expire_answers_0 store command kind now key word n at read timed absent =
-    ap (λ r. with_found r (expire_by store command kind now key)) read
-    ∙ ap (λ r. with_found r (λ z. cond (is_there store key) (does (Int (pos 1)) (expire_at key now z ∷ []))
-    (answers (Int (pos 0))))) timed
-    ∙ ap (λ t. cond t (does (Int (pos 1)) (expire_at key now at ∷ [])) (answers (Int (pos 0)))) (ap is_some absent)
+  pub pttl-pexpire : 0 < n → world.time + n < 2 ^ 63
+      → key_row (record world {
+        store = left_by world.store
+            (key_row world cmd.PExpire (name ∷ key ∷ word ∷ []));
+      }) cmd.PTtl (other ∷ key ∷ []) ≡ answers (Int (pos n))
+  pttl-pexpire some fits =
+      pttl-left (after cmd.PExpire) other key n (given cmd.PExpire (world.time + n) refl fits (omega arith))
 
-pub expire_refuses : (store : Store) (command : CmdId) (kind : Expiry) (now : ℕ) (key word : List ℕ) (n : ℤ)
-    (why : Refusal) → number word ≡ Ok n → expire_time command kind now n ≡ Err why
-    → expire_row store command kind now key word ≡ refused why
-expire_refuses store command kind now key word n why read out =
-    ap (λ r. with_found r (expire_by store command kind now key)) read
-    ∙ ap (λ r. with_found r (λ z. cond (is_there store key) (does (Int (pos 1)) (expire_at key now z ∷ []))
-    (answers (Int (pos 0))))) out
+  pub expiretime-expireat : world.time < n * 1000 → n * 1000 < 2 ^ 63
+      → key_row (record world {
+        store = left_by world.store
+            (key_row world cmd.ExpireAt (name ∷ key ∷ word ∷ []));
+      }) cmd.ExpireTime (other ∷ key ∷ [])
+      ≡ answers (Int (pos n))
+  expiretime-expireat later fits =
+      expiretime-due (after cmd.ExpireAt) other key (n * 1000) n
+      (given cmd.ExpireAt (n * 1000) refl fits later) (omega arith) (omega arith)
 
-persist_row-had : (store : Store) (key : List ℕ) (entry : Entry) (at : ℕ) → finite.get store key ≡ Some entry
-    → entry.deadline ≡ Some at → persist_row store key ≡ does (Int (pos 1)) (Persist key ∷ [])
-persist_row-had store key entry at there due =
-    ap (λ t. cond t (does (Int (pos 1)) (Persist key ∷ [])) (answers (Int (pos 0))))
-    (ap (λ o. is_some (option_and_then (λ (e : Entry). e.deadline) o)) there ∙ ap is_some due)
-
-pub persist_had : (store : Store) (key : List ℕ) (entry : Entry) (at : ℕ) → finite.get store key ≡ Some entry
-    → entry.deadline ≡ Some at
-    → ((persist_row store key).reply ≡ Int (pos 1))
-    × ChangesOnly store (left_by store (persist_row store key)) key (Some (record entry { deadline = None }))
-persist_had store key entry at there due = (
-  ap (λ (o : Outcome). o.reply) (persist_row-had store key entry at there due),
-  subst (λ s. ChangesOnly store s key (Some (record entry { deadline = None })))
-      (sym (ap (left_by store) (persist_row-had store key entry at there due))) (expired store key None entry there),
-)
-
-pub persist_none : (store : Store) (key : List ℕ) → deadline_at store key ≡ None
-    → persist_row store key ≡ answers (Int (pos 0))
-persist_none store key none = ap (λ t. cond t (does (Int (pos 1)) (Persist key ∷ [])) (answers (Int (pos 0))))
-    (ap is_some none)
-
-pub told_forever : (store : Store) (asked : Asked) (now : ℕ) (key : List ℕ) (entry : Entry)
-    → finite.get store key ≡ Some entry → entry.deadline ≡ None
-    → deadline_row store asked now key ≡ answers (Int (negsuc 0))
-told_forever store asked now key entry there none = ap (λ o. answers (Int (told_in asked now o))) there
-    ∙ ap (λ o. answers (Int (told_of asked now o))) none
-
-pub told_absent : (store : Store) (asked : Asked) (now : ℕ) (key : List ℕ) → finite.get store key ≡ None
-    → deadline_row store asked now key ≡ answers (Int (negsuc 1))
-told_absent store asked now key absent = ap (λ o. answers (Int (told_in asked now o))) absent
-
--- a deadline that was given is told
-told_given : (store after : Store) (key : List ℕ) (entry : Entry) (asked : Asked) (now at n : ℕ)
-    → ChangesOnly store after key (Some (record entry { deadline = Some at })) → told asked now at ≡ n
-    → deadline_row after asked now key ≡ answers (Int (pos n))
-told_given store after key entry asked now at n changes is =
-    ap (λ o. answers (Int (told_in asked now o))) changes.here ∙ ap (λ m. answers (Int (pos m))) is
-
-to_seconds : (now n : ℕ) → (now + n * 1000 - now + 500) / 1000 ≡ n
-to_seconds now n = omega arith
-
-pub ttl_expire : (store : Store) (command : CmdId) (now n : ℕ) (key word : List ℕ) (entry : Entry)
-    → number word ≡ Ok (pos n) → 0 < n → now + n * 1000 < 2 ^ 63 → finite.get store key ≡ Some entry
-    → deadline_row (left_by store (expire_row store command InSeconds now key word)) SecondsLeft now key
-    ≡ answers (Int (pos n))
-ttl_expire store command now n key word entry read some fits there =
-    told_given store (left_by store (expire_row store command InSeconds now key word)) key entry SecondsLeft now
-    (now + n * 1000) n
-    (expire_later store command InSeconds now key word (pos n) (now + n * 1000) entry read refl fits
-    (omega arith) there).1 (to_seconds now n)
-
-pub pttl_expire : (store : Store) (command : CmdId) (now n : ℕ) (key word : List ℕ) (entry : Entry)
-    → number word ≡ Ok (pos n) → 0 < n → now + n < 2 ^ 63 → finite.get store key ≡ Some entry
-    → deadline_row (left_by store (expire_row store command InMillis now key word)) MillisLeft now key
-    ≡ answers (Int (pos n))
-pttl_expire store command now n key word entry read some fits there =
-    told_given store (left_by store (expire_row store command InMillis now key word)) key entry MillisLeft now
-    (now + n) n
-    (expire_later store command InMillis now key word (pos n) (now + n) entry read refl fits (omega arith) there).1
-    (omega arith)
+  pub pexpiretime-pexpireat : world.time < n → n < 2 ^ 63
+      → key_row (record world {
+        store = left_by world.store
+            (key_row world cmd.PExpireAt (name ∷ key ∷ word ∷ []));
+      }) cmd.PExpireTime (other ∷ key ∷ [])
+      ≡ answers (Int (pos n))
+  pexpiretime-pexpireat later fits =
+      pexpiretime-due (after cmd.PExpireAt) other key n (given cmd.PExpireAt n refl fits later)

@@ -1,44 +1,50 @@
--- The records of the rows are within the limits, and give no deadline that is past.
-use Rattle.std.proofs.Common.{◌≡◌, ℕ, ◌<◌, ◌^◌, Bool, true, false, cond, leb, ℤ, pos, negsuc, List, Ok, refl, sym}
-use Rattle.std.proofs.Common.{subst, arith}
-use Rattle.std.proofs.lemmas.Bool.{leb-false, ltb-true}
+-- What the rows give is within the limits of a store, and can be carried out.
+use Rattle.std.proofs.Common.{◌≡◌, ℕ, List, Result, refl}
 use Rattle.std.specs.List.{AllByRecursion}
-use Rattle.ks_space.specs.Store.{Store, IsShort}
-use Rattle.fx_record.specs.declared.record.Record.TheVariants.{Del, ExpireAt}
+use Rattle.ks_space.specs.Store.{IsShort}
 use Rattle.cmd_args.specs.declared.commands.CmdId.{CmdId}
+use Rattle.cmd_args.specs.declared.commands.CmdId.TheVariants.{Client, Server, Strings, Keys}
+use Rattle.cmd_args.specs.declared.commands.ServerCmd.{ServerCmd}
+use Rattle.cmd_args.specs.declared.commands.KeyCmd.{KeyCmd}
 use Rattle.cmd_args.proofs.KeyLaws.{all-keys_named}
-use Rattle.cmd_rows.proofs.WordPlaces.{word_at-all}
-use Rattle.cmd_rows.specs.declared.times.Expiry.{Expiry}
-use Rattle.cmd_rows.specs.Numbers.{is_within_64}
-use Rattle.cmd_rows.specs.Times.{expire_time, expire_at}
-use Rattle.cmd_rows.specs.Outcomes.{word_at}
+use Rattle.cmd_rows.specs.declared.stop.Stop.{Stop}
+use Rattle.cmd_rows.specs.declared.given.Given.{Given}
 use Rattle.cmd_rows.specs.Bounds.{IsTimelyWithin, AreTimelyWithin}
-use Rattle.cmd_keys.specs.Rows.{key_row}
-use Rattle.cmd_keys.proofs.Records.{expire_time-within, rows-all}
+use Rattle.cmd_rows.specs.Worlds.{World}
+use Rattle.cmd_rows.specs.Given.{Follows, CanSettle}
+use Rattle.cmd_rows.proofs.Reasons.{Any, any_reason}
+use Rattle.cmd_rows.proofs.Walk.{good-records, allows-within, can_settle}
+use Rattle.cmd_keys.specs.Families.{IsOfKeys}
+use Rattle.cmd_keys.specs.ServerRows.{server_row}
+use Rattle.cmd_keys.specs.KeyRows.{key_row}
+use Rattle.cmd_keys.proofs.ServerWalk.{good-server_row}
+use Rattle.cmd_keys.proofs.KeyWalk.{good-key_row}
 
-expire_at-within : (now : ℕ) (key : List ℕ) (at : ℤ) → IsShort key → is_within_64 at ≡ true
-    → IsTimelyWithin now (expire_at key now at)
-expire_at-within now key (negsuc n) short within = (short, tt)
-expire_at-within now key (pos at) short within = by_test (leb at now) refl
-  where
-    by_test : (b : Bool) → leb at now ≡ b → IsTimelyWithin now (cond b (Del key) (ExpireAt key at))
-    by_test true is = (short, tt)
-    by_test false is = let past : now < at = leb-false at now is in ((short, ltb-true at (2 ^ 63) within), omega arith)
+pub server_records-within : (world : World) (id : ServerCmd) (words : List (List ℕ))
+    → AreTimelyWithin world.time (server_row world id words).records
+server_records-within world id words =
+    good-records Any (IsTimelyWithin world.time) (server_row world id words)
+    (good-server_row Any any_reason (IsTimelyWithin world.time) world id words (λ place there why e. tt)
+    (λ is. (tt, tt)) (λ is word e. tt))
 
--- the record of EXPIRE and its kin
-pub expiring-within : (command : CmdId) (kind : Expiry) (now : ℕ) (n at : ℤ) (key : List ℕ) → IsShort key
-    → expire_time command kind now n ≡ Ok at → IsTimelyWithin now (expire_at key now at)
-expiring-within command kind now n at key short e =
-    expire_at-within now key at short (expire_time-within command kind now n at e)
+pub key_records-within : (world : World) (id : KeyCmd) (words : List (List ℕ)) → AllByRecursion IsShort words
+    → AreTimelyWithin world.time (key_row world id words).records
+key_records-within world id words short =
+    good-records Any (IsTimelyWithin world.time) (key_row world id words)
+    (good-key_row Any any_reason IsShort IsShort (IsTimelyWithin world.time) world (allows-within world.time) words id
+    (λ place there why e. tt) (all-keys_named IsShort (Keys id) words short))
 
--- a copy of a short word is short
-pub copy-short : (words : List (List ℕ)) (place : ℕ) (word copy : List ℕ) → AllByRecursion IsShort words
-    → word_at words place ≡ Ok word → copy ≡ word → IsShort copy
-copy-short words place word copy short found same =
-    subst IsShort (sym same) (word_at-all IsShort words place word short found)
-
-pub rows-within : (store : Store) (now draws : ℕ) (id : CmdId) (words : List (List ℕ)) → AllByRecursion IsShort words
-    → AreTimelyWithin now (key_row store now draws id words).records
-rows-within store now draws id words short =
-    rows-all (IsTimelyWithin now) IsShort now (λ key s. (s, tt)) (λ key s. (s, tt)) (λ from to s t. ((s, t), tt))
-    (expire_at-within now) store draws id words (all-keys_named IsShort id words short) (λ flushed. (tt, tt))
+-- so what a command gave can be carried out
+pub can_settle-given : (world : World) (id : CmdId) (words : List (List ℕ)) (gave : Result Given Stop) → IsOfKeys id
+    → AllByRecursion IsShort words
+    → ((command : ServerCmd) → id ≡ Server command → Follows world.store (server_row world command words) gave)
+    → ((command : KeyCmd) → id ≡ Keys command → Follows world.store (key_row world command words) gave)
+    → CanSettle world.store gave
+can_settle-given world (Client id) words gave of short server keys = absurd of
+can_settle-given world (Server id) words gave of short server keys =
+    can_settle world.time world.store (server_row world id words) gave (server_records-within world id words)
+    (server id refl)
+can_settle-given world (Strings id) words gave of short server keys = absurd of
+can_settle-given world (Keys id) words gave of short server keys =
+    can_settle world.time world.store (key_row world id words) gave (key_records-within world id words short)
+    (keys id refl)

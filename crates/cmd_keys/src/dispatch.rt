@@ -1,111 +1,101 @@
-ghost use Rattle.std.specs.Prelude.{◌≡◌, IfOk, OnOk};
+ghost use Rattle.std.specs.Prelude.{◌≡◌, IfOk};
 ghost use Rattle.std.specs.List.{AllByRecursion};
 ghost use Rattle.ks_space.specs.Store.{IsShort};
-ghost use Rattle.cmd_args.specs.Draws.{state_after};
-ghost use Rattle.cmd_rows.specs.Deeds.{Did, IfAnswered};
-ghost use Rattle.cmd_keys.specs.Rows.{Tells, reading_row, changing_row, key_row};
+ghost use Rattle.cmd_args.specs.declared.commands.CmdId.{CmdId};
+ghost use Rattle.cmd_args.specs.declared.commands.ServerCmd.{ServerCmd};
+ghost use Rattle.cmd_args.specs.declared.commands.KeyCmd.{KeyCmd};
+ghost use Rattle.cmd_rows.specs.Worlds.{World};
+ghost use Rattle.cmd_rows.specs.Given.{Follows, Did};
+ghost use Rattle.cmd_keys.specs.Families.{IsOfKeys};
+ghost use Rattle.cmd_keys.specs.ServerRows.{server_row};
+ghost use Rattle.cmd_keys.specs.KeyRows.{key_row};
 
+use crate::counting::exists;
 use crate::expiring::{Asked, deadline, expire, persist};
 use crate::listing::{keys, random_key, type_of};
-use crate::removing::{del, exists};
+use crate::removing::del;
 use crate::renaming::{rename, rename_nx};
 use crate::server::{dbsize, echo, flush, ping, select, time};
-use cmd_args::{CmdId, Ctx, Draws, Refusal, Row};
-use cmd_rows::{Expiry, Stop, answered};
+use cmd_args::{CmdId, Ctx, Draws, KeyCmd, Row, ServerCmd};
+use cmd_rows::{Expiry, Given, Stop, World, settle, word, words_from};
 use fx_record::Effects;
 use ks_space::Space;
 use resp_reply::Reply;
 use rs_base::{NoMemory, Words};
-use std::alloc::Global;
 
 /// Carries out a command on keys or on the server, as its row says: it answers the reply, changes the store, adds
 /// what was done to it to the effects, unless the store is as before, and takes the draws. `words` fit the command
 /// and are at most 16,777,216 bytes each. After `NoMemory` the store and the effects are only good for dropping.
 pub fn run_keys(
-    alloc: Global,
     space: &mut Space,
     ctx: &Ctx,
-    row: &Row,
+    row: Row,
     words: &Words,
     draws: &mut Draws,
     effects: &mut Effects,
 ) -> Result<Reply, NoMemory>
-    requires { AllByRecursion IsShort words.now }
-    ensures did { IfOk result (λ reply. let row = key_row space.old ctx.now.time draws.old row.now.id words.now in
-        Did space.old row reply space.new effects.old effects.new row.draws) }
-    ensures draws { OnOk result (draws.new
-        ≡ state_after draws.old (key_row space.old ctx.now.time draws.old row.now.id words.now).draws) }
+    requires family { IsOfKeys row.id }
+    requires words { AllByRecursion IsShort words.now }
+    ensures server { (command : ServerCmd) → row.id ≡ CmdId.Server command → IfOk result (λ reply.
+        let world : World = record { store = space.old; time = ctx.now.time; draws = draws.old } in
+        Did world (server_row world command words.now) reply space.new effects.old effects.new draws.new) }
+    ensures keys { (command : KeyCmd) → row.id ≡ CmdId.Keys command → IfOk result (λ reply.
+        let world : World = record { store = space.old; time = ctx.now.time; draws = draws.old } in
+        Did world (key_row world command words.now) reply space.new effects.old effects.new draws.new) }
 {
-    let gave = run(alloc, space, ctx.time, row.id, words, draws, effects);
-    answered(alloc, gave)
+    let world = World::new(space, ctx, draws);
+    let gave = given(&world, row.id, words);
+    settle(space, draws, effects, gave)
 }
 
-#[tactic(auto, unfolding(crate::specs::Rows::key_row))]
-fn run(
-    alloc: Global,
-    space: &mut Space,
-    now: u64,
-    id: CmdId,
-    words: &Words,
-    draws: &mut Draws,
-    effects: &mut Effects,
-) -> Result<Reply, Stop>
-    requires { AllByRecursion IsShort words.now }
-    ensures did { IfAnswered result (λ reply. let row = key_row space.old now draws.old id words.now in
-        Did space.old row reply space.new effects.old effects.new row.draws) }
-    ensures draws { IfAnswered result
-        (λ _. draws.new ≡ state_after draws.old (key_row space.old now draws.old id words.now).draws) }
+fn given(world: &World<'_>, id: CmdId, words: &Words) -> Result<Given, Stop>
+    requires { IsOfKeys id }
+    ensures server { (command : ServerCmd) → id ≡ CmdId.Server command
+        → Follows world.now.store (server_row world.now command words.now) result }
+    ensures keys { (command : KeyCmd) → id ≡ CmdId.Keys command
+        → Follows world.now.store (key_row world.now command words.now) result }
 {
     match id {
-        CmdId::RandomKey => random_key(space, draws),
-        _ => change(alloc, space, now, id, words, effects),
+        CmdId::Server(command) => server(world, command, words),
+        CmdId::Keys(command) => key(world, command, words),
+        CmdId::Client(_) | CmdId::Strings(_) => unreachable!(),
     }
 }
 
-#[tactic(auto, unfolding(crate::specs::Rows::changing_row))]
-fn change(
-    alloc: Global,
-    space: &mut Space,
-    now: u64,
-    id: CmdId,
-    words: &Words,
-    effects: &mut Effects,
-) -> Result<Reply, Stop>
-    requires { AllByRecursion IsShort words.now }
-    ensures { IfAnswered result (λ reply.
-        Did space.old (changing_row space.old now id words.now) reply space.new effects.old effects.new 0) }
+#[tactic(auto, unfolding(crate::specs::ServerRows::server_row))]
+fn server(world: &World<'_>, command: ServerCmd, words: &Words) -> Result<Given, Stop>
+    ensures { Follows world.now.store (server_row world.now command words.now) result }
 {
-    match id {
-        CmdId::FlushAll | CmdId::FlushDb => flush(alloc, space, words, effects),
-        CmdId::Del | CmdId::Unlink => del(space, words, effects),
-        CmdId::Rename => rename(alloc, space, words, effects),
-        CmdId::RenameNx => rename_nx(space, words, effects),
-        CmdId::Expire => expire(space, id, Expiry::InSeconds, now, words, effects),
-        CmdId::PExpire => expire(space, id, Expiry::InMillis, now, words, effects),
-        CmdId::ExpireAt => expire(space, id, Expiry::AtSecond, now, words, effects),
-        CmdId::PExpireAt => expire(space, id, Expiry::AtMillis, now, words, effects),
-        CmdId::Persist => persist(space, words, effects),
-        _ => read(alloc, space, now, id, words),
+    match command {
+        ServerCmd::Ping => ping(world, words.get(1)),
+        ServerCmd::Echo => echo(world, word(words, 1)?),
+        ServerCmd::Select => select(world, word(words, 1)?),
+        ServerCmd::Time => time(world),
+        ServerCmd::DbSize => dbsize(world),
+        ServerCmd::FlushAll | ServerCmd::FlushDb => flush(world, words.get(1)),
     }
 }
 
-#[tactic(auto, unfolding(crate::specs::Rows::reading_row))]
-fn read(alloc: Global, space: &Space, now: u64, id: CmdId, words: &Words) -> Result<Reply, Stop>
-    ensures { IfAnswered result (λ reply. Tells (reading_row space.now now id words.now) reply) }
+#[tactic(auto, unfolding(crate::specs::KeyRows::key_row))]
+fn key(world: &World<'_>, command: KeyCmd, words: &Words) -> Result<Given, Stop>
+    ensures { Follows world.now.store (key_row world.now command words.now) result }
 {
-    match id {
-        CmdId::Ping => ping(alloc, words),
-        CmdId::Echo => echo(words),
-        CmdId::Select => select(alloc, words),
-        CmdId::Time => time(alloc, now),
-        CmdId::DbSize => dbsize(space),
-        CmdId::Exists => exists(space, words),
-        CmdId::TypeOf => type_of(alloc, space, words),
-        CmdId::Keys => keys(alloc, space, words),
-        CmdId::PTtl => deadline(space, Asked::MillisLeft, now, words),
-        CmdId::Ttl => deadline(space, Asked::SecondsLeft, now, words),
-        CmdId::PExpireTime => deadline(space, Asked::Millisecond, now, words),
-        CmdId::ExpireTime => deadline(space, Asked::Second, now, words),
-        _ => Err(Refusal::Syntax.into()),
+    match command {
+        KeyCmd::Del | KeyCmd::Unlink => del(world, words_from(words, 1)),
+        KeyCmd::Exists => exists(world, words_from(words, 1)),
+        KeyCmd::TypeOf => type_of(world, word(words, 1)?),
+        KeyCmd::Keys => keys(world, word(words, 1)?),
+        KeyCmd::RandomKey => random_key(world),
+        KeyCmd::Rename => rename(world, word(words, 1)?, word(words, 2)?),
+        KeyCmd::RenameNx => rename_nx(world, word(words, 1)?, word(words, 2)?),
+        KeyCmd::Expire => expire(world, command, Expiry::InSeconds, words),
+        KeyCmd::PExpire => expire(world, command, Expiry::InMillis, words),
+        KeyCmd::ExpireAt => expire(world, command, Expiry::AtSecond, words),
+        KeyCmd::PExpireAt => expire(world, command, Expiry::AtMillis, words),
+        KeyCmd::Persist => persist(world, word(words, 1)?),
+        KeyCmd::PTtl => deadline(world, Asked::MillisLeft, word(words, 1)?),
+        KeyCmd::Ttl => deadline(world, Asked::SecondsLeft, word(words, 1)?),
+        KeyCmd::PExpireTime => deadline(world, Asked::Millisecond, word(words, 1)?),
+        KeyCmd::ExpireTime => deadline(world, Asked::Second, word(words, 1)?),
     }
 }

@@ -1,77 +1,51 @@
 ghost use Rattle.std.specs.Prelude.{◌≡◌, ◌<◌, ◌^◌, is_some, IfSome};
-ghost use Rattle.std.specs.List.{AllByRecursion};
-ghost use Rattle.ks_space.specs.Store.{IsShort, IsDeadline, deadline_at};
-ghost use Rattle.cmd_rows.specs.Deeds.{Did, IfAnswered};
-ghost use Rattle.cmd_keys.specs.DeadlineRows.{expire_by, expire_row, persist_row, seconds, told, told_of, deadline_row};
-ghost use Rattle.cmd_keys.specs.Rows.{with_word, with_two_words, Tells};
+ghost use Rattle.ks_space.specs.Store.{IsDeadline, deadline_at};
+ghost use Rattle.cmd_rows.specs.Outcomes.{with_two_words};
+ghost use Rattle.cmd_rows.specs.Given.{Follows};
+ghost use Rattle.cmd_keys.specs.KeyRows.{expire_row, persist_row, seconds, told, told_of, deadline_row};
 
-use crate::words::is_there;
-use cmd_args::CmdId;
-use cmd_rows::{Expiry, Stop, expire_at, expire_time, number, word};
-use fx_record::{Effects, Record, carry_out};
-use ks_space::{Entry, Space};
+use crate::counting::is_there;
+use cmd_args::{CmdId, KeyCmd};
+use cmd_rows::{Expiry, Given, Stop, World, expire_at, expire_time, number, word};
+use fx_record::Record;
 use resp_reply::Reply;
 use rs_base::{Bytes, Words};
 
-/// EXPIRE, PEXPIRE, EXPIREAT and PEXPIREAT: the key, if it is there, expires at a time; where that is at or below
-/// `now`, it leaves at once. Answers 1, or 0 where the key is absent.
+/// EXPIRE, PEXPIRE, EXPIREAT and PEXPIREAT: the key, if it is there, expires at a time; where that is not later than
+/// now, it leaves at once. Answers 1, or 0 where the key is absent. Refused where the second word spells no integer, or
+/// the time is past 64 signed bits.
 pub fn expire(
-    space: &mut Space,
-    command: CmdId,
+    world: &World<'_>,
+    command: KeyCmd,
     kind: Expiry,
-    now: u64,
     words: &Words,
-    effects: &mut Effects,
-) -> Result<Reply, Stop>
-    requires { AllByRecursion IsShort words.now }
-    ensures { IfAnswered result (λ reply.
-        Did space.old (with_two_words words.now (expire_row space.old command kind now)) reply
-        space.new effects.old effects.new 0) }
+) -> Result<Given, Stop>
+    ensures { Follows world.now.store (with_two_words words.now (expire_row world.now command kind)) result }
 {
     let key = word(words, 1)?;
     let n = number(word(words, 2)?)?;
-    expire_key(space, command, kind, now, key, n, effects)
-}
-
-fn expire_key(
-    space: &mut Space,
-    command: CmdId,
-    kind: Expiry,
-    now: u64,
-    key: &Bytes,
-    n: i64,
-    effects: &mut Effects,
-) -> Result<Reply, Stop>
-    requires { IsShort key.now }
-    ensures { IfAnswered result (λ reply.
-        Did space.old (expire_by space.old command kind now key.now n) reply space.new effects.old effects.new 0) }
-{
-    let at = expire_time(command, kind, now, n)?;
-    if !is_there(space, key) {
-        return Ok(Reply::Int(0));
+    let at = expire_time(CmdId::Keys(command), kind, world.time, n)?;
+    if !is_there(world, key) {
+        return Ok(Given::reply(Reply::Int(0)));
     }
-    carry_out(space, effects, expire_at(key.clone()?, now, at))?;
-    Ok(Reply::Int(1))
+    let expires = expire_at(key.clone()?, world.time, at);
+    Ok(Given::one(Reply::Int(1), expires))
 }
 
 /// PERSIST: the key has no deadline any longer. Answers 1 where it had one, else 0.
-pub fn persist(space: &mut Space, words: &Words, effects: &mut Effects) -> Result<Reply, Stop>
-    requires { AllByRecursion IsShort words.now }
-    ensures { IfAnswered result (λ reply.
-        Did space.old (with_word words.now (persist_row space.old)) reply space.new effects.old effects.new 0) }
+pub fn persist(world: &World<'_>, key: &Bytes) -> Result<Given, Stop>
+    ensures { Follows world.now.store (persist_row world.now key.now) result }
 {
-    let key = word(words, 1)?;
-    if !has_deadline(space, key) {
-        return Ok(Reply::Int(0));
+    if !has_deadline(world, key) {
+        return Ok(Given::reply(Reply::Int(0)));
     }
-    carry_out(space, effects, Record::Persist { key: key.clone()? })?;
-    Ok(Reply::Int(1))
+    Ok(Given::one(Reply::Int(1), Record::Persist { key: key.clone()? }))
 }
 
-fn has_deadline(space: &Space, key: &Bytes) -> bool
-    ensures { result ≡ is_some (deadline_at space.now key.now) }
+fn has_deadline(world: &World<'_>, key: &Bytes) -> bool
+    ensures { result ≡ is_some (deadline_at world.now.store key.now) }
 {
-    match space.get(key.as_slice()) {
+    match world.space.get(key.as_slice()) {
         Some(entry) => entry.deadline.is_some(),
         None => false,
     }
@@ -92,14 +66,14 @@ pub enum Asked {
 
 /// PTTL, TTL, PEXPIRETIME and EXPIRETIME: what is asked of the deadline of a key. -2 where the key is absent, and -1
 /// where it has no deadline.
-pub fn deadline(space: &Space, asked: Asked, now: u64, words: &Words) -> Result<Reply, Stop>
-    ensures { IfAnswered result (λ reply. Tells (with_word words.now (deadline_row space.now asked now)) reply) }
+pub fn deadline(world: &World<'_>, asked: Asked, key: &Bytes) -> Result<Given, Stop>
+    ensures { Follows world.now.store (deadline_row world.now asked key.now) result }
 {
-    let key = word(words, 1)?;
-    Ok(Reply::Int(match space.get(key.as_slice()) {
-        Some(entry) => told_of(asked, now, entry.deadline),
+    let told = match world.space.get(key.as_slice()) {
+        Some(entry) => told_of(asked, world.time, entry.deadline),
         None => -2,
-    }))
+    };
+    Ok(Given::reply(Reply::Int(told)))
 }
 
 fn told_of(asked: Asked, now: u64, deadline: Option<u64>) -> i64

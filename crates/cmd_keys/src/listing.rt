@@ -1,25 +1,22 @@
 ghost use Rattle.std.specs.Prelude.{◌≡◌, map, filter, IfOk, option_copied};
 ghost use Rattle.resp_reply.specs.declared.reply.Reply.TheVariants.{Bulk};
-ghost use Rattle.cmd_args.specs.Draws.{state_after};
-ghost use Rattle.cmd_rows.specs.Deeds.{IfAnswered};
+ghost use Rattle.cmd_rows.specs.Given.{Follows};
 ghost use Rattle.cmd_keys.specs.Globs.{is_match};
 ghost use Rattle.cmd_keys.specs.KeyRows.{kind_in, type_row, keys_row, randomkey_row};
-ghost use Rattle.cmd_keys.specs.Rows.{with_word, Tells};
 
-use cmd_args::Draws;
 use cmd_glob::Glob;
-use cmd_rows::{Stop, word};
-use ks_space::{Entry, Space, Value};
+use cmd_rows::{Changes, Given, Stop, World};
+use ks_space::{Entry, Value};
 use resp_reply::{Replies, Reply};
-use rs_base::{Bytes, NoMemory, Words};
+use rs_base::{Bytes, NoMemory};
 use std::alloc::Global;
 
 /// TYPE: of what kind the value of a key is.
-pub fn type_of(alloc: Global, space: &Space, words: &Words) -> Result<Reply, Stop>
-    ensures { IfAnswered result (λ reply. Tells (with_word words.now (type_row space.now)) reply) }
+pub fn type_of(world: &World<'_>, key: &Bytes) -> Result<Given, Stop>
+    ensures { Follows world.now.store (type_row world.now key.now) result }
 {
-    let key = word(words, 1)?;
-    Ok(Reply::status(alloc, kind_in(space.get(key.as_slice())))?)
+    let kind = kind_in(world.space.get(key.as_slice()));
+    Ok(Given::reply(Reply::status(world.alloc(), kind)?))
 }
 
 fn kind_in(entry: Option<&Entry>) -> &'static [u8]
@@ -38,13 +35,13 @@ fn kind_in(entry: Option<&Entry>) -> &'static [u8]
 }
 
 /// KEYS: the keys that a glob-style pattern matches, in byte order.
-pub fn keys(alloc: Global, space: &Space, words: &Words) -> Result<Reply, Stop>
-    ensures { IfAnswered result (λ reply. Tells (with_word words.now (keys_row space.now)) reply) }
+pub fn keys(world: &World<'_>, pattern: &Bytes) -> Result<Given, Stop>
+    ensures { Follows world.now.store (keys_row world.now pattern.now) result }
 {
-    let pattern = word(words, 1)?;
-    let glob = Glob::new(alloc, pattern.as_slice())?;
-    let keys = space.keys()?;
-    Ok(Reply::Array(matching(alloc, &glob, keys.as_slice())?))
+    let glob = Glob::new(world.alloc(), pattern.as_slice())?;
+    let keys = world.space.keys()?;
+    let matching = matching(world.alloc(), &glob, keys.as_slice())?;
+    Ok(Given::reply(Reply::Array(matching)))
 }
 
 fn matching(alloc: Global, glob: &Glob, keys: &[Bytes]) -> Result<Replies, NoMemory>
@@ -66,16 +63,20 @@ fn is_match(glob: &Glob, key: &Bytes) -> bool
 }
 
 /// RANDOMKEY: one of the keys, by one draw. Null without a draw where there is no key.
-pub fn random_key(space: &Space, draws: &mut Draws) -> Result<Reply, Stop>
-    ensures reply { IfAnswered result (λ reply. reply ≡ (randomkey_row space.now draws.old).reply) }
-    ensures draws { draws.new ≡ state_after draws.old (randomkey_row space.now draws.old).draws }
+pub fn random_key(world: &World<'_>) -> Result<Given, Stop>
+    ensures { Follows world.now.store (randomkey_row world.now) result }
 {
-    let count = space.len();
+    let count = world.space.len();
     if count == 0 {
-        return Ok(Reply::NullBulk);
+        return Ok(Given::reply(Reply::NullBulk));
     }
-    match space.key_at(draws.below(count as u64) as usize)? {
-        Some(key) => Ok(Reply::Bulk(key)),
-        None => Ok(Reply::NullBulk),
+    let place = world.draws.copy()?.below(count as u64);
+    match world.space.key_at(place as usize)? {
+        None => Ok(Given::reply(Reply::NullBulk)),
+        Some(key) => Ok(Given {
+            reply: Reply::Bulk(key),
+            changes: Changes::Nothing,
+            draws: 1,
+        }),
     }
 }

@@ -1,59 +1,54 @@
-ghost use Rattle.std.specs.Prelude.{◌≡◌, [], ◌∷◌, IfOk, MatchResult, slice_get, decimal};
-ghost use Rattle.std.specs.Option.{option_copied};
+ghost use Rattle.std.specs.Prelude.{◌≡◌, [], ◌∷◌, IfOk, MatchResult, option_copied, decimal};
 ghost use Rattle.resp_reply.specs.declared.reply.Reply.{Reply};
 ghost use Rattle.fx_record.specs.declared.record.Record.TheVariants.{FlushAll};
-ghost use Rattle.cmd_rows.specs.Deeds.{Did, IfAnswered};
 ghost use Rattle.cmd_rows.specs.Outcomes.{ok, does, refused};
+ghost use Rattle.cmd_rows.specs.Given.{Follows};
 ghost use Rattle.cmd_keys.specs.ServerRows.{ping_row, echo_row, select_row, time_row, dbsize_row, is_flush_mode};
 ghost use Rattle.cmd_keys.specs.ServerRows.{flush_row};
-ghost use Rattle.cmd_keys.specs.Rows.{with_word, Tells};
 
-use crate::words::count;
+use crate::counting::count;
 use cmd_args::Refusal;
-use cmd_rows::{Stop, number, ok, word};
-use fx_record::{Effects, Record, carry_out};
-use ks_space::Space;
+use cmd_rows::{Given, Stop, World, number, ok};
+use fx_record::Record;
 use resp_reply::{Replies, Reply};
-use rs_base::{Bytes, NoMemory, Words, write_decimal};
+use rs_base::{Bytes, NoMemory, write_decimal};
 use std::alloc::Global;
 
 /// PING: the status PONG, or the word that comes with it.
-pub fn ping(alloc: Global, words: &Words) -> Result<Reply, Stop>
-    ensures { IfAnswered result (λ reply. Tells (ping_row (slice_get words.now 1)) reply) }
+pub fn ping(world: &World<'_>, word: Option<&Bytes>) -> Result<Given, Stop>
+    ensures { Follows world.now.store (ping_row (option_copied word.entry)) result }
 {
-    match words.get(1) {
-        None => Ok(Reply::status(alloc, b"PONG")?),
-        Some(word) => Ok(Reply::Bulk(word.clone()?)),
+    match word {
+        None => Ok(Given::reply(Reply::status(world.alloc(), b"PONG")?)),
+        Some(word) => Ok(Given::reply(Reply::Bulk(word.clone()?))),
     }
 }
 
 /// ECHO: the word.
-pub fn echo(words: &Words) -> Result<Reply, Stop>
-    ensures { IfAnswered result (λ reply. Tells (with_word words.now echo_row) reply) }
+pub fn echo(world: &World<'_>, word: &Bytes) -> Result<Given, Stop>
+    ensures { Follows world.now.store (echo_row word.now) result }
 {
-    let word = word(words, 1)?;
-    Ok(Reply::Bulk(word.clone()?))
+    Ok(Given::reply(Reply::Bulk(word.clone()?)))
 }
 
 /// SELECT: there is no database but 0.
-pub fn select(alloc: Global, words: &Words) -> Result<Reply, Stop>
-    ensures { IfAnswered result (λ reply. Tells (with_word words.now select_row) reply) }
+pub fn select(world: &World<'_>, word: &Bytes) -> Result<Given, Stop>
+    ensures { Follows world.now.store (select_row word.now) result }
 {
-    let word = word(words, 1)?;
     if number(word)? != 0 {
         return Err(Refusal::DbIndex.into());
     }
-    Ok(ok(alloc)?)
+    Ok(Given::reply(ok(world.alloc())?))
 }
 
 /// TIME: the seconds since the Unix epoch, and the microseconds behind them.
-pub fn time(alloc: Global, now: u64) -> Result<Reply, Stop>
-    ensures { IfAnswered result (λ reply. Tells (time_row now) reply) }
+pub fn time(world: &World<'_>) -> Result<Given, Stop>
+    ensures { Follows world.now.store (time_row world.now) result }
 {
-    let mut parts = Replies::new(alloc);
-    parts.push(decimal(alloc, now / 1000)?)?;
-    parts.push(decimal(alloc, now % 1000 * 1000)?)?;
-    Ok(Reply::Array(parts))
+    let mut parts = Replies::new(world.alloc());
+    parts.push(decimal(world.alloc(), world.time / 1000)?)?;
+    parts.push(decimal(world.alloc(), world.time % 1000 * 1000)?)?;
+    Ok(Given::reply(Reply::Array(parts)))
 }
 
 fn decimal(alloc: Global, n: u64) -> Result<Reply, NoMemory>
@@ -65,25 +60,18 @@ fn decimal(alloc: Global, n: u64) -> Result<Reply, NoMemory>
 }
 
 /// DBSIZE: how many keys there are.
-pub fn dbsize(space: &Space) -> Result<Reply, Stop>
-    ensures { IfAnswered result (λ reply. Tells (dbsize_row space.now) reply) }
+pub fn dbsize(world: &World<'_>) -> Result<Given, Stop>
+    ensures { Follows world.now.store (dbsize_row world.now) result }
 {
-    count(space.len())
+    Ok(Given::reply(count(world.space.len())?))
 }
 
-/// FLUSHALL and FLUSHDB: all keys leave.
-pub fn flush(
-    alloc: Global,
-    space: &mut Space,
-    words: &Words,
-    effects: &mut Effects,
-) -> Result<Reply, Stop>
-    ensures { IfAnswered result (λ reply.
-        Did space.old (flush_row (slice_get words.now 1)) reply space.new effects.old effects.new 0) }
+/// FLUSHALL and FLUSHDB: all keys leave. A word other than ASYNC and SYNC is a syntax error.
+pub fn flush(world: &World<'_>, mode: Option<&Bytes>) -> Result<Given, Stop>
+    ensures { Follows world.now.store (flush_row (option_copied mode.entry)) result }
 {
-    flush_mode(words.get(1))?;
-    carry_out(space, effects, Record::FlushAll)?;
-    Ok(ok(alloc)?)
+    flush_mode(mode)?;
+    Ok(Given::one(ok(world.alloc())?, Record::FlushAll))
 }
 
 // No word, ASYNC or SYNC. Both mean the same here.

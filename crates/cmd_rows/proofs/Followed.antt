@@ -1,7 +1,6 @@
--- Records that follow others, records that are kept, and replies.
-use Rattle.std.proofs.Common.{◌≡◌, ℕ, List, [], ◌∷◌, ◌++◌, Result, Ok, Err, refl, sym, subst}
+-- Records that follow others, and records that are kept.
+use Rattle.std.proofs.Common.{◌≡◌, ℕ, List, [], ◌∷◌, ◌++◌, refl}
 use Rattle.std.specs.List.{AllByRecursion}
-use Rattle.resp_reply.specs.declared.reply.Reply.{Reply}
 use Rattle.ks_space.specs.Store.{Store, IsStore}
 use Rattle.ks_space.specs.Purge.{IsTimely}
 use Rattle.fx_record.specs.declared.record.Record.{Record}
@@ -11,10 +10,7 @@ use Rattle.fx_record.specs.Settled.{settled}
 use Rattle.fx_record.specs.Timely.{IsTimelyRecord}
 use Rattle.fx_record.proofs.LimitLaws.{applied-within, applied-timely}
 use Rattle.fx_record.proofs.SettledLaws.{settled-back}
-use Rattle.cmd_rows.specs.declared.stop.Stop.{Stop}
-use Rattle.cmd_rows.specs.declared.stop.Stop.TheVariants.{Refused, NoMemory}
 use Rattle.cmd_rows.specs.Bounds.{AreTimelyWithin}
-use Rattle.cmd_rows.specs.Deeds.{IfAnswered, Answers}
 
 -- nothing is kept of nothing
 pub settled-nothing : (store : Store) → settled store [] ≡ []
@@ -45,10 +41,3 @@ pub timely-append : (time : ℕ) (first then : List Record) → AreTimelyWithin 
     → AreTimelyWithin time (first ++ then)
 timely-append time [] then one two = two
 timely-append time (r ∷ first) then one two = (one.0, timely-append time first then one.1 two)
-
--- what is so of a command's reply is so of the reply in which it ends
-pub answers-says : (Says : Reply → Type 0) (gave : Result Reply Stop) (reply : Reply) → Answers gave reply
-    → IfAnswered gave Says → Says reply
-answers-says Says (Ok given) reply is says = subst Says (sym is) says
-answers-says Says (Err (Refused why)) reply is says = subst Says (sym is) says
-answers-says Says (Err NoMemory) reply is says = absurd is

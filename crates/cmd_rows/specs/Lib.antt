@@ -8,6 +8,7 @@ pub mod Outcomes
 pub mod Numbers
 pub mod Times
 pub mod Strings
-pub mod Deeds
+pub mod Worlds
+pub mod Given
 pub mod Bounds
 pub mod Sets

@@ -1,39 +1,31 @@
-ghost use Rattle.std.specs.Prelude.{◌≡◌, ◌↔◌, ◌++◌, Some, None, IsTrue, IfOk, OnOk};
+ghost use Rattle.std.specs.Prelude.{◌≡◌, ◌↔◌, [], Some, None, IsTrue, IfOk};
 ghost use Rattle.std.specs.FinMap as finite;
 ghost use Rattle.std.specs.List.{AllByRecursion};
+ghost use Rattle.ks_value.specs.Fields.{value_of};
 ghost use Rattle.ks_space.specs.Store.{IsShort};
 ghost use Rattle.fx_record.specs.Records.{applied, string_entry};
-ghost use Rattle.fx_record.specs.RecordWords.{IsRecord};
-ghost use Rattle.fx_record.specs.Settled.{settled};
 ghost use Rattle.cmd_rows.specs.Strings.{sets_in, sets_of};
-ghost use Rattle.cmd_rows.specs.Sets.{IsSet, Agrees};
+ghost use Rattle.cmd_rows.specs.Sets.{IsSet, Agrees, strings_set};
+ghost use Rattle.cmd_rows.specs.Given.{records_of, IsTold};
 
-use fx_record::{Effects, Record, apply};
+use crate::Changes;
+use fx_record::{Effects, Record};
 use ks_space::{Entry, Space, Value};
+use ks_value::HashValue;
 use rs_base::{Bytes, NoMemory, Words};
 use std::alloc::Global;
 use std::collections::VecDeque;
 
-/// Carries out a SET for each pair of a key and a string behind the name; where that leads back to the same store, no
-/// effects are added. After `NoMemory` the store and the effects are only good for dropping.
-pub fn set_all(
-    alloc: Global,
-    space: &mut Space,
-    effects: &mut Effects,
-    words: &Words,
-) -> Result<(), NoMemory>
+/// A SET for each pair of a key and a string behind the name, and whether they lead back to the same store.
+pub fn sets(space: &Space, words: &Words) -> Result<Changes, NoMemory>
     requires { AllByRecursion IsShort words.now }
-    ensures store { OnOk result (space.new ≡ applied space.old (sets_in words.now)) }
-    ensures effects { OnOk result (effects.new ≡ effects.old ++ settled space.old (sets_in words.now)) }
+    ensures records { IfOk result (λ changes. records_of changes ≡ sets_in words.now) }
+    ensures told { IfOk result (λ changes. IsTold space.now changes) }
 {
+    let alloc = space.alloc();
     let sets = sets_in(alloc, words)?;
-    let stays = lead_back(alloc, space, &sets)?;
-    if stays {
-        return Ok(());
-    }
-    apply_all(space, &sets)?;
-    append(effects, sets)?;
-    Ok(())
+    let leads_back = lead_back(alloc, space, &sets)?;
+    Ok(Changes::Many(sets, leads_back))
 }
 
 fn sets_in(alloc: Global, words: &Words) -> Result<Effects, NoMemory>
@@ -72,12 +64,24 @@ fn lead_back(alloc: Global, space: &Space, sets: &Effects) -> Result<bool, NoMem
     requires { AllByRecursion IsSet sets.now }
     ensures { IfOk result (λ back. IsTrue back ↔ (applied space.now sets.now ≡ space.now)) }
 {
-    let mut last = Space::new(alloc);
-    apply_all(&mut last, sets)?;
+    let last = last_strings(alloc, sets)?;
     Ok(all_agree(&last, space, sets))
 }
 
-fn all_agree(last: &Space, space: &Space, sets: &Effects) -> bool
+// What each key is set to last.
+fn last_strings(alloc: Global, sets: &Effects) -> Result<HashValue, NoMemory>
+    ensures { IfOk result (λ last. last ≡ strings_set [] sets.now) }
+{
+    let mut last = HashValue::new(alloc);
+    for set in sets.as_slice() {
+        if let Record::Set { key, value } = set {
+            last.set(key.clone()?, value.clone()?)?;
+        }
+    }
+    Ok(last)
+}
+
+fn all_agree(last: &HashValue, space: &Space, sets: &Effects) -> bool
     ensures { IsTrue result ↔ AllByRecursion (Agrees last.now space.now) sets.now }
 {
     for set in sets.as_slice() {
@@ -88,18 +92,27 @@ fn all_agree(last: &Space, space: &Space, sets: &Effects) -> bool
     true
 }
 
-fn agrees(last: &Space, space: &Space, set: &Record) -> bool
+fn agrees(last: &HashValue, space: &Space, set: &Record) -> bool
     ensures { IsTrue result ↔ Agrees last.now space.now set.now }
 {
     match set {
         Record::Set { key, value } => {
-            if has_string(last, key, value) {
+            if is_last(last, key, value) {
                 has_string(space, key, value)
             } else {
                 true
             }
         }
         _ => true,
+    }
+}
+
+fn is_last(last: &HashValue, key: &Bytes, value: &Bytes) -> bool
+    ensures { IsTrue result ↔ (value_of last.now key.now ≡ Some value.now) }
+{
+    match last.get(key.as_slice()) {
+        Some(text) => is_same(text, value),
+        None => false,
     }
 }
 
@@ -126,23 +139,4 @@ fn is_same(one: &Bytes, other: &Bytes) -> bool
     ensures { IsTrue result ↔ (one.now ≡ other.now) }
 {
     one == other
-}
-
-fn apply_all(space: &mut Space, records: &Effects) -> Result<(), NoMemory>
-    requires { AllByRecursion IsRecord records.now }
-    ensures { OnOk result (space.new ≡ applied space.old records.now) }
-{
-    for record in records.as_slice() {
-        apply(space, record)?;
-    }
-    Ok(())
-}
-
-fn append(effects: &mut Effects, records: Effects) -> Result<(), NoMemory>
-    ensures { OnOk result (effects.new ≡ effects.old ++ records) }
-{
-    for record in records.into_vec() {
-        effects.push(record)?;
-    }
-    Ok(())
 }

@@ -9,9 +9,9 @@ use Rattle.cmd_args.specs.declared.refusal.Refusal.TheVariants.{Overflow}
 use Rattle.cmd_rows.specs.Numbers.{number, is_within_64}
 use Rattle.cmd_rows.specs.Strings.{string_at}
 use Rattle.cmd_rows.proofs.NumberTexts.{number-is, within-is, within-true}
-use Rattle.cmd_string.specs.Found.{then_found}
+use Rattle.cmd_rows.specs.Outcomes.{then_found}
 use Rattle.cmd_string.specs.StringRows.{fitting, integer_at}
-use Rattle.cmd_string.proofs.EachRecord.{by_test}
+use Rattle.cmd_string.proofs.StringWalk.{by_test}
 
 -- a sum that is none where it does not fit
 pub fitting-is : (z : ℤ) (found : Option ℤ) → SomeIff found (FitsSigned w64 z) z → ok_or found Overflow ≡ fitting z

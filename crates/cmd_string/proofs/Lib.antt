@@ -1,10 +1,10 @@
-pub mod Rows
-pub mod EachRecord
-pub mod EachRow
+pub mod StringWalk
 pub mod Counts
+pub mod Parts
 pub mod Given
 pub mod GivenBySet
 pub mod GivenByOptions
-pub mod Parts
-pub mod Families
-pub mod RowEnds
+pub mod WalkLaws
+pub mod OtherKinds
+pub mod Slices
+pub mod OptionOrder

@@ -3,19 +3,15 @@ use Rattle.std.proofs.Common.{◌≡◌, ℕ, suc, ◌+◌, ◌<◌, ◌≤◌, 
 use Rattle.std.proofs.Common.{ap, ◌∙◌, arith, length-append, length-drop}
 use Rattle.std.proofs.Math.Seq.{drop-cons}
 use Rattle.std.proofs.lemmas.List.{length-take, length-replicate}
-use Rattle.std.specs.Prelude.{◌≢◌, ℤ, pos, negsuc, nat_abs, Result, Ok, Err, MatchResult, IfOk}
+use Rattle.std.specs.Prelude.{◌≢◌, ℤ, pos, negsuc, nat_abs}
 use lib.Signed.{lt_z}
-use Rattle.std.specs.List.{AllByRecursion}
-use denote.Ref.{Bor}
 use Rattle.std.specs.FinMap as finite
 use Rattle.std.proofs.lemmas.Bool.{lt-leb}
-use Rattle.ks_space.specs.Store.{Store, IsShort}
-use Rattle.cmd_args.specs.declared.refusal.Refusal.{Refusal}
+use Rattle.ks_space.specs.Store.{Store}
 use Rattle.cmd_args.specs.declared.refusal.Refusal.TheVariants.{TooLong}
-use Rattle.cmd_rows.specs.Outcomes.{refused, word_at}
+use Rattle.cmd_rows.specs.Outcomes.{refused}
 use Rattle.cmd_string.specs.Ranges.{written_over}
 use Rattle.cmd_string.specs.StringRows.{has_any, grown_row, range_row}
-use Rattle.cmd_rows.proofs.WordPlaces.{word_at-all}
 
 -- the first of two words more is a key
 pub any-step : (store : Store) (words : List (List ℕ)) (place : ℕ) (key : List ℕ) → place + 1 < length words
@@ -50,14 +46,7 @@ too_far key old value offset far =
     let test = lt-leb (length (written_over old offset value)) 16777216 long in
     rw test
 
--- the word at a place, of words of which none is too long
-pub short-word : (words : List (List ℕ)) (place : ℕ) (found : Result (Bor (List ℕ)) Refusal)
-    → AllByRecursion IsShort words
-    → MatchResult found (λ word. word_at words place ≡ Ok word.now) (λ why. word_at words place ≡ Err why)
-    → IfOk found (λ word. IsShort word.now)
-short-word words place (Ok word) all is = word_at-all IsShort words place word.now all is
-short-word words place (Err why) all is = tt
-
+-- also where the offset is one of 64 bits
 pub range-far : (key old value : List ℕ) (at : ℤ) → lt_z at (pos 0) ≡ false → 16777216 < nat_abs at → value ≢ []
     → range_row key old at value ≡ refused TooLong
 range-far key old [] (pos offset) after far some = absurd (some refl)

@@ -8,7 +8,8 @@ use Rattle.fx_record.specs.declared.record.Record.{Record}
 use Rattle.fx_record.specs.declared.record.Record.TheVariants.{Set, SetKeeping}
 use Rattle.fx_record.specs.declared.record.Record.TheVariants as effect
 use Rattle.cmd_args.specs.declared.commands.CmdId.{CmdId}
-use Rattle.cmd_args.specs.declared.commands.CmdId.TheVariants as command
+use Rattle.cmd_args.specs.declared.commands.CmdId.TheVariants.{Strings}
+use Rattle.cmd_args.specs.declared.commands.StringCmd.TheVariants as command
 use Rattle.cmd_args.specs.declared.refusal.Refusal.{Refusal}
 use Rattle.cmd_args.specs.declared.refusal.Refusal.TheVariants.{Syntax, NotInteger}
 use Rattle.cmd_rows.specs.declared.times.Expiry.{Expiry}
@@ -25,7 +26,7 @@ use Rattle.cmd_string.specs.declared.options.SetWord.TheVariants.{When, Get, Kee
 use Rattle.cmd_string.specs.declared.options.Reading.{Reading}
 use Rattle.cmd_string.specs.declared.getex.Change.{Change}
 use Rattle.cmd_string.specs.declared.getex.Change.TheVariants.{AsBefore, Persist, ExpireAt}
-use Rattle.cmd_string.specs.Found.{then_found}
+use Rattle.cmd_rows.specs.Outcomes.{then_found}
 
 -- the word is this one, in letters of either case
 abbrev pub is_word : List ℕ → List ℕ → Bool
@@ -94,7 +95,7 @@ abbrev pub set_effect : ℕ → List ℕ → List ℕ → Option Lasting → Res
 set_effect now key value None = Ok (Set key value)
 set_effect now key value (Some Keeping) = Ok (SetKeeping key value)
 set_effect now key value (Some (Until kind read)) =
-    then_found (deadline_read command.Set now kind read) (λ at. Ok (set_until key value now at))
+    then_found (deadline_read (Strings command.Set) now kind read) (λ at. Ok (set_until key value now at))
 
 -- the key is as SET asks for it to be
 abbrev pub is_met : Option Condition → Bool → Bool
@@ -108,7 +109,7 @@ getex_change now [] = Ok AsBefore
 getex_change now (word ∷ []) = if is_word word (codes "PERSIST") then Ok Persist else Err Syntax
 getex_change now (word ∷ n ∷ []) =
     then_found (ok_or (expiry_named word) Syntax) (λ kind.
-    then_found (deadline_read command.GetEx now kind (result_ok (number n))) (λ at. Ok (ExpireAt at)))
+    then_found (deadline_read (Strings command.GetEx) now kind (result_ok (number n))) (λ at. Ok (ExpireAt at)))
 getex_change now _ = Err Syntax
 
 abbrev pub change_effects : ℕ → List ℕ → Change → List Record

@@ -1,13 +1,12 @@
--- The commands on strings, one row each (Redis manual, strings). Rows that stand one in another refuse in that order.
+-- The commands on strings, one row each, and at the end the words that each takes (Redis manual, strings). Rows that
+-- stand one in another refuse in that order.
 use Rattle.std.specs.Prelude.{ℕ, Bool, false, ◌||◌, if◌then◌else◌, ℤ, pos, negsuc, ◌+ℤ◌, ◌-ℤ◌, List, [], ◌∷◌, ◌++◌}
 use Rattle.std.specs.Prelude.{length, map, drop, Option, None, Result, Ok, Err, codes}
 use Rattle.std.specs.Option.{unwrap_or}
 use Rattle.std.specs.Result.{result_unwrap_or}
 use Rattle.std.specs.FinMap as finite
 use Rattle.rs_whole.specs.Integers.{integer_text}
-use Rattle.resp_reply.specs.declared.reply.Reply.{roll-Reply}
 use Rattle.resp_reply.specs.declared.reply.Reply.TheVariants.{Int, Bulk}
-use Rattle.resp_reply.specs.declared.reply.Reply.TheOpen.{Reply-F}
 use Rattle.ks_space.specs.Store.{Store}
 use Rattle.fx_record.specs.declared.record.Record.TheVariants.{Set, SetKeeping, Del}
 use Rattle.fx_record.specs.RecordWords.{is_short}
@@ -15,13 +14,18 @@ use Rattle.cmd_args.specs.declared.commands.CmdId.{CmdId}
 use Rattle.cmd_args.specs.declared.refusal.Refusal.{Refusal}
 use Rattle.cmd_args.specs.declared.refusal.Refusal.TheVariants.{Offset, TooLong, Overflow}
 use Rattle.cmd_rows.specs.declared.times.Expiry.{Expiry}
-use Rattle.cmd_rows.specs.Outcomes.{Outcome, answers, does, refused, with_found, ok}
+use Rattle.cmd_rows.specs.Outcomes.{Outcome, answers, does, refused, with_found, then_found, ok, array, with_word}
+use Rattle.cmd_rows.specs.Outcomes.{with_two_words, with_three_words}
 use Rattle.cmd_rows.specs.Numbers.{number, is_within_64}
 use Rattle.cmd_rows.specs.Times.{deadline, set_until}
 use Rattle.cmd_rows.specs.Strings.{string_at, with_string, bulk_or_null, sets_in}
-use Rattle.cmd_string.specs.Found.{then_found}
 use Rattle.cmd_string.specs.Ranges.{part, written_over}
 use Rattle.cmd_string.specs.Options.{set_options, set_effect, is_met, getex_change, change_effects}
+use Rattle.cmd_args.specs.declared.commands.CmdId.TheVariants.{Strings}
+use Rattle.cmd_args.specs.declared.commands.StringCmd.{StringCmd}
+use Rattle.cmd_rows.specs.declared.times.Expiry.TheVariants.{InSeconds, InMillis}
+use Rattle.cmd_rows.specs.Worlds.{World}
+use Rattle.cmd_args.specs.declared.commands.StringCmd.TheVariants as command
 
 -- GET key
 abbrev pub get_row : Store → List ℕ → Outcome
@@ -32,7 +36,7 @@ abbrev pub string_or_none : Store → List ℕ → Option (List ℕ)
 string_or_none store key = result_unwrap_or (string_at store key) None
 
 abbrev pub mget_row : Store → List (List ℕ) → Outcome
-mget_row store keys = answers (roll-Reply (Reply-F.Array (map (λ key. bulk_or_null (string_or_none store key)) keys)))
+mget_row store keys = answers (array (map (λ key. bulk_or_null (string_or_none store key)) keys))
 
 -- STRLEN key
 abbrev pub strlen_row : Store → List ℕ → Outcome
@@ -136,9 +140,44 @@ abbrev pub counted_row : Store → List ℕ → (ℤ → ℤ) → Outcome
 counted_row store key change =
     with_found (integer_at store key) (λ n. with_found (fitting (change n)) (kept_row key))
 
--- INCR key and INCRBY key increment; DECR key and DECRBY key decrement
+-- INCR key adds 1, DECR key subtracts 1
 abbrev pub add_row : Store → List ℕ → ℤ → Outcome
 add_row store key increment = counted_row store key (λ n. n +ℤ increment)
 
 abbrev pub subtract_row : Store → List ℕ → ℤ → Outcome
 subtract_row store key decrement = counted_row store key (λ n. n -ℤ decrement)
+
+-- INCRBY key increment, DECRBY key decrement
+abbrev pub incrby_row : Store → List ℕ → List ℕ → Outcome
+incrby_row store key word = with_found (number word) (add_row store key)
+
+abbrev pub decrby_row : Store → List ℕ → List ℕ → Outcome
+decrby_row store key word = with_found (number word) (subtract_row store key)
+
+-- the command is one on strings
+abbrev pub IsOfStrings : CmdId → Type 0
+IsOfStrings (Strings id) = Unit {0}
+IsOfStrings _ = ⊥
+
+-- what a command on strings gives; a row is only given words that fit it
+unfoldable pub string_row : World → StringCmd → List (List ℕ) → Outcome
+string_row world command.Get words = with_word words (get_row world.store)
+string_row world command.Set words =
+    with_two_words words (λ key value. set_row world.store world.time key value (drop 3 words))
+string_row world command.SetNx words = with_two_words words (setnx_row world.store)
+string_row world command.SetEx words = with_three_words words (setex_row (Strings command.SetEx) InSeconds world.time)
+string_row world command.PSetEx words = with_three_words words (setex_row (Strings command.PSetEx) InMillis world.time)
+string_row world command.GetSet words = with_two_words words (getset_row world.store)
+string_row world command.GetDel words = with_word words (getdel_row world.store)
+string_row world command.GetEx words = with_word words (λ key. getex_row world.store world.time key (drop 2 words))
+string_row world command.MGet words = mget_row world.store (drop 1 words)
+string_row world command.MSet words = mset_row words
+string_row world command.MSetNx words = msetnx_row world.store words
+string_row world command.Append words = with_two_words words (append_row world.store)
+string_row world command.StrLen words = with_word words (strlen_row world.store)
+string_row world command.GetRange words = with_three_words words (getrange_row world.store)
+string_row world command.SetRange words = with_three_words words (setrange_row world.store)
+string_row world command.Incr words = with_word words (λ key. add_row world.store key (pos 1))
+string_row world command.Decr words = with_word words (λ key. subtract_row world.store key (pos 1))
+string_row world command.IncrBy words = with_two_words words (incrby_row world.store)
+string_row world command.DecrBy words = with_two_words words (decrby_row world.store)

@@ -4,228 +4,225 @@ ghost use Rattle.std.specs.List.{AllByRecursion};
 ghost use Rattle.std.specs.FinMap as finite;
 ghost use Rattle.rs_whole.specs.Integers.{integer_text};
 ghost use Rattle.resp_reply.specs.declared.reply.Reply.{Reply};
-ghost use Rattle.ks_space.specs.Store.{Store, IsShort, IsStore, deadline_at};
-ghost use Rattle.ks_space.specs.Purge.{IsTimely};
+ghost use Rattle.ks_space.specs.declared.entry.Entry.{Entry};
+ghost use Rattle.ks_space.specs.declared.entry.Value.{Value};
+ghost use Rattle.ks_space.specs.Store.{IsShort, deadline_at};
+ghost use Rattle.fx_record.specs.declared.record.Record.{Record};
 ghost use Rattle.cmd_args.specs.declared.commands.CmdId.{CmdId};
+ghost use Rattle.cmd_args.specs.declared.commands.StringCmd.{StringCmd};
 ghost use Rattle.cmd_args.specs.declared.refusal.Refusal.{Refusal};
 ghost use Rattle.cmd_args.specs.Keys.{keys_named};
 ghost use Rattle.cmd_args.specs.Refusals.{refusal_text};
-ghost use Rattle.cmd_args.specs.Table.{command};
+ghost use Rattle.cmd_args.specs.Table.{string_command};
 ghost use Rattle.cmd_rows.specs.declared.times.Expiry.{Expiry};
 ghost use Rattle.cmd_rows.specs.Bounds.{AreTimelyWithin};
 ghost use Rattle.cmd_rows.specs.Numbers.{number, is_within_64};
-ghost use Rattle.cmd_rows.specs.Outcomes.{refused, ok};
+ghost use Rattle.cmd_rows.specs.Outcomes.{answers, array, refused};
 ghost use Rattle.cmd_rows.specs.Strings.{string_at, bulk_or_null};
 ghost use Rattle.cmd_rows.specs.Times.{deadline};
+ghost use Rattle.cmd_rows.specs.Worlds.{World};
 ghost use Rattle.cmd_string.specs.Ranges.{written_over};
 ghost use Rattle.cmd_string.specs.declared.getex.Change.{Change};
-ghost use Rattle.cmd_string.specs.declared.options.Lasting.{Lasting};
 ghost use Rattle.cmd_string.specs.declared.options.SetOptions.{SetOptions};
-ghost use Rattle.cmd_string.specs.Options.{set_options, is_met, getex_change};
-ghost use Rattle.cmd_string.specs.StringLaws.{after, Gives, Writes, written_reply, expiry_word, last_string};
-ghost use Rattle.cmd_string.specs.StringRows.{get_row, set_row, setnx_row, setex_row, getset_row, getdel_row};
-ghost use Rattle.cmd_string.specs.StringRows.{getex_row, mset_row, msetnx_row, has_any, append_row, setrange_row};
-ghost use Rattle.cmd_string.specs.StringRows.{add_row, subtract_row, integer_at};
-ghost use Rattle.cmd_string.specs.StringTable.{is_of_strings, string_row};
+ghost use Rattle.cmd_string.specs.Options.{set_options, set_effect, getex_change};
+ghost use Rattle.cmd_string.specs.StringLaws.{after, Gives, IsOtherKind, expiry_word};
+ghost use Rattle.cmd_string.specs.StringRows.{integer_at};
+ghost use Rattle.cmd_string.specs.StringRows.{string_row};
 
 /// What a command on strings does is within the limits of a store, and gives no deadline that is past.
 pub fn string_records_are_within()
-    ensures { (store : Store) (now : ℕ) (id : CmdId) (words : List (List ℕ)) → IsStore store → IsTimely store now
-        → AllByRecursion IsShort words
-        → AreTimelyWithin now (string_row store now id words).records }
+    ensures { (world : World) (id : StringCmd) (words : List (List ℕ)) → AllByRecursion IsShort words
+        → AreTimelyWithin world.time (string_row world id words).records }
 {}
 
 /// A command on strings leaves each key that it does not name as it was: with its value and its deadline, or absent.
 /// What it names goes by the places of its words: `SET k v` names `k` alone, also where another key is `v`.
 pub fn other_keys_stay()
-    ensures { (store : Store) (now : ℕ) (id : CmdId) (words : List (List ℕ)) (other : List ℕ)
-        → ¬ (Contains (keys_named id words) other)
-        → finite.get (after store (string_row store now id words)) other ≡ finite.get store other }
-{}
-
-/// After SET a GET gives the string. Without an option for it the key has no deadline, with KEEPTTL the one that it
-/// had, and with EX, PX, EXAT or PXAT the one that its number gives; where that is not past the time, the key does
-/// not exist.
-pub fn set_then_get()
-    ensures plain { (store : Store) (now : ℕ) (key value : List ℕ)
-        → Gives (after store (set_row store now key value [])) key value None }
-    ensures keepttl { (store : Store) (now : ℕ) (key value : List ℕ)
-        → Gives (after store (set_row store now key value (codes "KEEPTTL" ∷ []))) key value (deadline_at store key) }
-    ensures until { (store : Store) (now : ℕ) (key value : List ℕ) (kind : Expiry) (word : List ℕ) (n : ℤ) (at : ℕ)
-        → number word ≡ Ok n
-        → deadline CmdId.Set kind now n ≡ Ok at → now < at
-        → Gives (after store (set_row store now key value (expiry_word kind ∷ word ∷ []))) key value (Some at) }
-    ensures past { (store : Store) (now : ℕ) (key value : List ℕ) (kind : Expiry) (word : List ℕ) (n : ℤ) (at : ℕ)
-        → number word ≡ Ok n
-        → deadline CmdId.Set kind now n ≡ Ok at → at ≤ now
-        → finite.get (after store (set_row store now key value (expiry_word kind ∷ word ∷ []))) key ≡ None }
-{}
-
-/// SET with NX leaves a key that exists as it was, and SET with XX one that does not: they answer null. Else they set
-/// the string, and answer OK. With GET the reply is the old string, and the key has the new one.
-pub fn set_asks_first()
-    ensures nx { (store : Store) (now : ℕ) (key value : List ℕ) → finite.contains_key store key ≡ true
-        → ((set_row store now key value (codes "NX" ∷ [])).reply ≡ Reply.NullBulk)
-        × (after store (set_row store now key value (codes "NX" ∷ [])) ≡ store) }
-    ensures nx_writes { (store : Store) (now : ℕ) (key value : List ℕ) → finite.contains_key store key ≡ false
-        → ((set_row store now key value (codes "NX" ∷ [])).reply ≡ ok)
-        × Gives (after store (set_row store now key value (codes "NX" ∷ []))) key value None }
-    ensures xx { (store : Store) (now : ℕ) (key value : List ℕ) → finite.contains_key store key ≡ false
-        → ((set_row store now key value (codes "XX" ∷ [])).reply ≡ Reply.NullBulk)
-        × (after store (set_row store now key value (codes "XX" ∷ [])) ≡ store) }
-    ensures xx_writes { (store : Store) (now : ℕ) (key value : List ℕ) → finite.contains_key store key ≡ true
-        → ((set_row store now key value (codes "XX" ∷ [])).reply ≡ ok)
-        × Gives (after store (set_row store now key value (codes "XX" ∷ []))) key value None }
-    ensures get { (store : Store) (now : ℕ) (key value : List ℕ) (old : Option (List ℕ)) → string_at store key ≡ Ok old
-        → ((set_row store now key value (codes "GET" ∷ [])).reply ≡ bulk_or_null old)
-        × Gives (after store (set_row store now key value (codes "GET" ∷ []))) key value None }
-{}
-
-/// SET with the options that its words give. Where NX and XX allow it, a GET gives the string after it; without an
-/// option for it the key has no deadline, with KEEPTTL the one that it had, and with EX, PX, EXAT or PXAT the one
-/// that its number gives; where that is not past the time, the key does not exist. The reply is OK, and with GET the
-/// old string. Where NX or XX does not allow it, the store stays as it was.
-pub fn set_does_as_its_options_say()
-    ensures plain { (store : Store) (now : ℕ) (key value : List ℕ) (words : List (List ℕ)) (options : SetOptions)
-        (old : Option (List ℕ))
-        → Writes store key words options old → options.lasting ≡ None
-        → ((set_row store now key value words).reply ≡ written_reply options old)
-        × Gives (after store (set_row store now key value words)) key value None }
-    ensures keepttl { (store : Store) (now : ℕ) (key value : List ℕ) (words : List (List ℕ)) (options : SetOptions)
-        (old : Option (List ℕ))
-        → Writes store key words options old → options.lasting ≡ Some Lasting.Keeping
-        → ((set_row store now key value words).reply ≡ written_reply options old)
-        × Gives (after store (set_row store now key value words)) key value (deadline_at store key) }
-    ensures until { (store : Store) (now : ℕ) (key value : List ℕ) (words : List (List ℕ)) (options : SetOptions)
-        (old : Option (List ℕ)) (kind : Expiry) (n : ℤ) (at : ℕ)
-        → Writes store key words options old → options.lasting ≡ Some (Lasting.Until kind (Some n))
-        → deadline CmdId.Set kind now n ≡ Ok at → now < at
-        → ((set_row store now key value words).reply ≡ written_reply options old)
-        × Gives (after store (set_row store now key value words)) key value (Some at) }
-    ensures past { (store : Store) (now : ℕ) (key value : List ℕ) (words : List (List ℕ)) (options : SetOptions)
-        (old : Option (List ℕ)) (kind : Expiry) (n : ℤ) (at : ℕ)
-        → Writes store key words options old → options.lasting ≡ Some (Lasting.Until kind (Some n))
-        → deadline CmdId.Set kind now n ≡ Ok at → at ≤ now
-        → ((set_row store now key value words).reply ≡ written_reply options old)
-        × (finite.get (after store (set_row store now key value words)) key ≡ None) }
-    ensures skips { (store : Store) (now : ℕ) (key value : List ℕ) (words : List (List ℕ)) (options : SetOptions)
-        → set_options words ≡ Ok options
-        → is_met options.condition (finite.contains_key store key) ≡ false
-        → after store (set_row store now key value words) ≡ store }
-{}
-
-/// After SETNX of a key that did not exist, and after GETSET, a GET gives the string, and the key has no deadline.
-/// SETNX leaves a key that exists as it was. After SETEX and PSETEX a GET gives the string until the deadline.
-pub fn other_sets_then_get()
-    ensures setnx { (store : Store) (key value : List ℕ) → finite.contains_key store key ≡ false
-        → Gives (after store (setnx_row store key value)) key value None }
-    ensures setnx_there { (store : Store) (key value : List ℕ) → finite.contains_key store key ≡ true
-        → after store (setnx_row store key value) ≡ store }
-    ensures getset { (store : Store) (key value : List ℕ) (old : Option (List ℕ)) → string_at store key ≡ Ok old
-        → Gives (after store (getset_row store key value)) key value None }
-    ensures setex { (store : Store) (id : CmdId) (kind : Expiry) (now : ℕ) (key time value : List ℕ) (n : ℤ) (at : ℕ)
-        → number time ≡ Ok n
-        → deadline id kind now n ≡ Ok at → now < at
-        → Gives (after store (setex_row id kind now key time value)) key value (Some at) }
+    ensures { (world : World) (id : StringCmd) (words : List (List ℕ)) (other : List ℕ)
+        → ¬ (Contains (keys_named (CmdId.Strings id) words) other)
+        → finite.get (after world id words) other ≡ finite.get world.store other }
 {}
 
 /// GETDEL and GETEX answer the string. After GETDEL the key does not exist. GETEX gives a string the deadline that it
 /// is asked for, takes it away with PERSIST, and leaves it without an option; the string stays, unless the deadline
 /// is not past the time: then the key does not exist. GETEX of a key that does not exist changes nothing.
 pub fn getdel_and_getex()
-    ensures getdel { (store : Store) (key : List ℕ) (text : Option (List ℕ)) → string_at store key ≡ Ok text
-        → ((getdel_row store key).reply ≡ bulk_or_null text)
-        × (finite.get (after store (getdel_row store key)) key ≡ None) }
-    ensures getex { (store : Store) (now : ℕ) (key : List ℕ) (words : List (List ℕ)) (text : Option (List ℕ))
-        (change : Change) → string_at store key ≡ Ok text
-        → getex_change now words ≡ Ok change → (getex_row store now key words).reply ≡ bulk_or_null text }
-    ensures plain { (store : Store) (now : ℕ) (key text : List ℕ) → string_at store key ≡ Ok (Some text)
-        → after store (getex_row store now key []) ≡ store }
-    ensures persist { (store : Store) (now : ℕ) (key text : List ℕ) → string_at store key ≡ Ok (Some text)
-        → Gives (after store (getex_row store now key (codes "PERSIST" ∷ []))) key text None }
-    ensures until { (store : Store) (now : ℕ) (key text : List ℕ) (kind : Expiry) (word : List ℕ) (n : ℤ) (at : ℕ)
-        → string_at store key ≡ Ok (Some text)
-        → number word ≡ Ok n → deadline CmdId.GetEx kind now n ≡ Ok at → now < at
-        → Gives (after store (getex_row store now key (expiry_word kind ∷ word ∷ []))) key text (Some at) }
-    ensures past { (store : Store) (now : ℕ) (key text : List ℕ) (kind : Expiry) (word : List ℕ) (n : ℤ) (at : ℕ)
-        → string_at store key ≡ Ok (Some text)
-        → number word ≡ Ok n → deadline CmdId.GetEx kind now n ≡ Ok at → at ≤ now
-        → finite.get (after store (getex_row store now key (expiry_word kind ∷ word ∷ []))) key ≡ None }
-    ensures absent { (store : Store) (now : ℕ) (key : List ℕ) (words : List (List ℕ)) → finite.get store key ≡ None
-        → after store (getex_row store now key words) ≡ store }
+    ensures getdel { (world : World) (name key : List ℕ) (text : Option (List ℕ)) → string_at world.store key ≡ Ok text
+        → ((string_row world StringCmd.GetDel (name ∷ key ∷ [])).reply ≡ bulk_or_null text)
+        × (finite.get (after world StringCmd.GetDel (name ∷ key ∷ [])) key ≡ None) }
+    ensures getex { (world : World) (name key : List ℕ) (words : List (List ℕ)) (text : Option (List ℕ))
+        (change : Change) → string_at world.store key ≡ Ok text
+        → getex_change world.time words ≡ Ok change
+        → (string_row world StringCmd.GetEx (name ∷ key ∷ words)).reply ≡ bulk_or_null text }
+    ensures plain { (world : World) (name key text : List ℕ) → string_at world.store key ≡ Ok (Some text)
+        → after world StringCmd.GetEx (name ∷ key ∷ []) ≡ world.store }
+    ensures persist { (world : World) (name key text : List ℕ) → string_at world.store key ≡ Ok (Some text)
+        → Gives (after world StringCmd.GetEx (name ∷ key ∷ codes "PERSIST" ∷ [])) key text None }
+    ensures until { (world : World) (name key text : List ℕ) (kind : Expiry) (word : List ℕ) (n : ℤ) (at : ℕ)
+        → string_at world.store key ≡ Ok (Some text) → number word ≡ Ok n
+        → deadline (CmdId.Strings StringCmd.GetEx) kind world.time n ≡ Ok at → world.time < at
+        → Gives (after world StringCmd.GetEx (name ∷ key ∷ expiry_word kind ∷ word ∷ [])) key text (Some at) }
+    ensures past { (world : World) (name key text : List ℕ) (kind : Expiry) (word : List ℕ) (n : ℤ) (at : ℕ)
+        → string_at world.store key ≡ Ok (Some text) → number word ≡ Ok n
+        → deadline (CmdId.Strings StringCmd.GetEx) kind world.time n ≡ Ok at → at ≤ world.time
+        → finite.get (after world StringCmd.GetEx (name ∷ key ∷ expiry_word kind ∷ word ∷ [])) key ≡ None }
+    ensures absent { (world : World) (name key : List ℕ) (words : List (List ℕ)) → finite.get world.store key ≡ None
+        → after world StringCmd.GetEx (name ∷ key ∷ words) ≡ world.store }
 {}
 
 /// After APPEND a GET gives the old string and the value behind it, and after SETRANGE the old string with the value
-/// in it. The key keeps the deadline that it had. An APPEND that would make more than 16,777,216 bytes is refused;
-/// SETRANGE without a value changes nothing.
+/// in it. The key keeps the deadline that it had, and the reply is the length. An APPEND that would make more than
+/// 16,777,216 bytes is refused; SETRANGE without a value changes nothing.
 pub fn strings_grow()
-    ensures append { (store : Store) (key value : List ℕ) (old : Option (List ℕ)) → string_at store key ≡ Ok old
-        → IsShort (unwrap_or old [] ++ value)
-        → Gives (after store (append_row store key value)) key (unwrap_or old [] ++ value) (deadline_at store key) }
-    ensures setrange { (store : Store) (key word value : List ℕ) (offset : ℕ) (old : Option (List ℕ))
-        → string_at store key ≡ Ok old → number word ≡ Ok (pos offset)
+    ensures append { (world : World) (name key value : List ℕ) (old : Option (List ℕ))
+        → string_at world.store key ≡ Ok old → IsShort (unwrap_or old [] ++ value)
+        → ((string_row world StringCmd.Append (name ∷ key ∷ value ∷ [])).reply
+        ≡ Reply.Int (pos (length (unwrap_or old [] ++ value))))
+        × Gives (after world StringCmd.Append (name ∷ key ∷ value ∷ [])) key (unwrap_or old [] ++ value)
+        (deadline_at world.store key) }
+    ensures setrange { (world : World) (name key word value : List ℕ) (offset : ℕ) (old : Option (List ℕ))
+        → string_at world.store key ≡ Ok old → number word ≡ Ok (pos offset)
         → value ≢ [] → IsShort (written_over (unwrap_or old []) offset value)
-        → Gives (after store (setrange_row store key word value)) key (written_over (unwrap_or old []) offset value)
-        (deadline_at store key) }
-    ensures too_long { (store : Store) (key value : List ℕ) (old : Option (List ℕ)) → string_at store key ≡ Ok old
-        → 16777216 < length (unwrap_or old [] ++ value)
-        → append_row store key value ≡ refused Refusal.TooLong }
-    ensures no_value { (store : Store) (key word : List ℕ) (offset : ℕ) (old : Option (List ℕ))
-        → string_at store key ≡ Ok old → number word ≡ Ok (pos offset)
-        → after store (setrange_row store key word []) ≡ store }
+        → ((string_row world StringCmd.SetRange (name ∷ key ∷ word ∷ value ∷ [])).reply
+        ≡ Reply.Int (pos (length (written_over (unwrap_or old []) offset value))))
+        × Gives (after world StringCmd.SetRange (name ∷ key ∷ word ∷ value ∷ [])) key
+        (written_over (unwrap_or old []) offset value) (deadline_at world.store key) }
+    ensures too_long { (world : World) (name key value : List ℕ) (old : Option (List ℕ))
+        → string_at world.store key ≡ Ok old → 16777216 < length (unwrap_or old [] ++ value)
+        → string_row world StringCmd.Append (name ∷ key ∷ value ∷ []) ≡ refused Refusal.TooLong }
+    ensures no_value { (world : World) (name key word : List ℕ) (offset : ℕ) (old : Option (List ℕ))
+        → string_at world.store key ≡ Ok old → number word ≡ Ok (pos offset)
+        → after world StringCmd.SetRange (name ∷ key ∷ word ∷ [] ∷ []) ≡ world.store }
 {}
 
-/// INCR, INCRBY, DECR and DECRBY give the sum, and the difference, in 64 bits: the reply says it, and after it a GET
-/// gives its digits. The key keeps the deadline that it had. Past 64 bits they are refused, and so is a string that
-/// is no integer.
+/// INCR adds 1, INCRBY its number, DECR and DECRBY subtract 1 and the number, in 64 bits: the reply says the result,
+/// and after it a GET gives its digits. The key keeps the deadline that it had. An absent key counts as 0. Past 64 bits
+/// they are refused, and so is a string that is no integer.
 pub fn integers_are_counted()
-    ensures add { (store : Store) (key : List ℕ) (m n : ℤ) → integer_at store key ≡ Ok m → is_within_64 (m +ℤ n) ≡ true
-        → Gives (after store (add_row store key n)) key (integer_text (m +ℤ n)) (deadline_at store key) }
-    ensures add_reply { (store : Store) (key : List ℕ) (m n : ℤ) → integer_at store key ≡ Ok m
-        → is_within_64 (m +ℤ n) ≡ true
-        → (add_row store key n).reply ≡ Reply.Int (m +ℤ n) }
-    ensures subtract { (store : Store) (key : List ℕ) (m n : ℤ) → integer_at store key ≡ Ok m
-        → is_within_64 (m -ℤ n) ≡ true
-        → Gives (after store (subtract_row store key n)) key (integer_text (m -ℤ n)) (deadline_at store key) }
-    ensures subtract_reply { (store : Store) (key : List ℕ) (m n : ℤ) → integer_at store key ≡ Ok m
-        → is_within_64 (m -ℤ n) ≡ true
-        → (subtract_row store key n).reply ≡ Reply.Int (m -ℤ n) }
-    ensures overflow { (store : Store) (key : List ℕ) (m n : ℤ) → integer_at store key ≡ Ok m
-        → is_within_64 (m +ℤ n) ≡ false
-        → add_row store key n ≡ refused Refusal.Overflow }
-    ensures underflow { (store : Store) (key : List ℕ) (m n : ℤ) → integer_at store key ≡ Ok m
-        → is_within_64 (m -ℤ n) ≡ false
-        → subtract_row store key n ≡ refused Refusal.Overflow }
-    ensures absent { (store : Store) (key : List ℕ) → finite.get store key ≡ None → integer_at store key ≡ Ok (pos 0) }
-    ensures no_integer { (store : Store) (key text : List ℕ) (n : ℤ) → string_at store key ≡ Ok (Some text)
+    ensures incr { (world : World) (name key : List ℕ) (m : ℤ) → integer_at world.store key ≡ Ok m
+        → is_within_64 (m +ℤ pos 1) ≡ true
+        → ((string_row world StringCmd.Incr (name ∷ key ∷ [])).reply ≡ Reply.Int (m +ℤ pos 1))
+        × Gives (after world StringCmd.Incr (name ∷ key ∷ [])) key (integer_text (m +ℤ pos 1))
+        (deadline_at world.store key) }
+    ensures decr { (world : World) (name key : List ℕ) (m : ℤ) → integer_at world.store key ≡ Ok m
+        → is_within_64 (m -ℤ pos 1) ≡ true
+        → ((string_row world StringCmd.Decr (name ∷ key ∷ [])).reply ≡ Reply.Int (m -ℤ pos 1))
+        × Gives (after world StringCmd.Decr (name ∷ key ∷ [])) key (integer_text (m -ℤ pos 1))
+        (deadline_at world.store key) }
+    ensures incrby { (world : World) (name key word : List ℕ) (m n : ℤ) → integer_at world.store key ≡ Ok m
+        → number word ≡ Ok n → is_within_64 (m +ℤ n) ≡ true
+        → ((string_row world StringCmd.IncrBy (name ∷ key ∷ word ∷ [])).reply ≡ Reply.Int (m +ℤ n))
+        × Gives (after world StringCmd.IncrBy (name ∷ key ∷ word ∷ [])) key (integer_text (m +ℤ n))
+        (deadline_at world.store key) }
+    ensures decrby { (world : World) (name key word : List ℕ) (m n : ℤ) → integer_at world.store key ≡ Ok m
+        → number word ≡ Ok n → is_within_64 (m -ℤ n) ≡ true
+        → ((string_row world StringCmd.DecrBy (name ∷ key ∷ word ∷ [])).reply ≡ Reply.Int (m -ℤ n))
+        × Gives (after world StringCmd.DecrBy (name ∷ key ∷ word ∷ [])) key (integer_text (m -ℤ n))
+        (deadline_at world.store key) }
+    ensures incr_overflow { (world : World) (name key : List ℕ) (m : ℤ) → integer_at world.store key ≡ Ok m
+        → is_within_64 (m +ℤ pos 1) ≡ false
+        → string_row world StringCmd.Incr (name ∷ key ∷ []) ≡ refused Refusal.Overflow }
+    ensures decr_underflow { (world : World) (name key : List ℕ) (m : ℤ) → integer_at world.store key ≡ Ok m
+        → is_within_64 (m -ℤ pos 1) ≡ false
+        → string_row world StringCmd.Decr (name ∷ key ∷ []) ≡ refused Refusal.Overflow }
+    ensures incrby_overflow { (world : World) (name key word : List ℕ) (m n : ℤ) → integer_at world.store key ≡ Ok m
+        → number word ≡ Ok n → is_within_64 (m +ℤ n) ≡ false
+        → string_row world StringCmd.IncrBy (name ∷ key ∷ word ∷ []) ≡ refused Refusal.Overflow }
+    ensures decrby_underflow { (world : World) (name key word : List ℕ) (m n : ℤ) → integer_at world.store key ≡ Ok m
+        → number word ≡ Ok n → is_within_64 (m -ℤ n) ≡ false
+        → string_row world StringCmd.DecrBy (name ∷ key ∷ word ∷ []) ≡ refused Refusal.Overflow }
+    ensures absent { (world : World) (key : List ℕ) → finite.get world.store key ≡ None
+        → integer_at world.store key ≡ Ok (pos 0) }
+    ensures integer { (world : World) (key text : List ℕ) (n : ℤ) → string_at world.store key ≡ Ok (Some text)
+        → number text ≡ Ok n → integer_at world.store key ≡ Ok n }
+    ensures no_integer { (world : World) (name key text : List ℕ) → string_at world.store key ≡ Ok (Some text)
         → number text ≡ Err Refusal.NotInteger
-        → (add_row store key n ≡ refused Refusal.NotInteger) × (subtract_row store key n ≡ refused Refusal.NotInteger) }
+        → (string_row world StringCmd.Incr (name ∷ key ∷ []) ≡ refused Refusal.NotInteger)
+        × (string_row world StringCmd.Decr (name ∷ key ∷ []) ≡ refused Refusal.NotInteger) }
+    ensures no_integer_by { (world : World) (name key word text : List ℕ) (n : ℤ) → number word ≡ Ok n
+        → string_at world.store key ≡ Ok (Some text) → number text ≡ Err Refusal.NotInteger
+        → (string_row world StringCmd.IncrBy (name ∷ key ∷ word ∷ []) ≡ refused Refusal.NotInteger)
+        × (string_row world StringCmd.DecrBy (name ∷ key ∷ word ∷ []) ≡ refused Refusal.NotInteger) }
 {}
 
-/// After MSET a GET of each key gives the string of its last pair, and the key has no deadline. So it is after MSETNX
-/// where none of the keys existed; where one does, nothing is set.
-pub fn mset_then_get()
-    ensures mset { (store : Store) (name key value : List ℕ) (pairs : List (List ℕ))
-        → last_string key pairs ≡ Some value
-        → Gives (after store (mset_row (name ∷ pairs))) key value None }
-    ensures msetnx { (store : Store) (name key value : List ℕ) (pairs : List (List ℕ)) → has_any store pairs ≡ false
-        → last_string key pairs ≡ Some value
-        → Gives (after store (msetnx_row store (name ∷ pairs))) key value None }
-    ensures msetnx_there { (store : Store) (name : List ℕ) (pairs : List (List ℕ)) → has_any store pairs ≡ true
-        → after store (msetnx_row store (name ∷ pairs)) ≡ store }
+/// GET answers the string of a key, and null for a key that does not exist. STRLEN answers how many bytes it has, and 0
+/// for a key that does not exist. MGET answers for each key, in their order, its string, or null where it holds none.
+pub fn strings_are_read()
+    ensures get { (world : World) (name key text : List ℕ) (entry : Entry)
+        → finite.get world.store key ≡ Some entry → entry.value ≡ Value.Str text
+        → string_row world StringCmd.Get (name ∷ key ∷ []) ≡ answers (Reply.Bulk text) }
+    ensures get_absent { (world : World) (name key : List ℕ) → finite.get world.store key ≡ None
+        → string_row world StringCmd.Get (name ∷ key ∷ []) ≡ answers Reply.NullBulk }
+    ensures strlen { (world : World) (name key text : List ℕ) (entry : Entry)
+        → finite.get world.store key ≡ Some entry → entry.value ≡ Value.Str text
+        → string_row world StringCmd.StrLen (name ∷ key ∷ []) ≡ answers (Reply.Int (pos (length text))) }
+    ensures strlen_absent { (world : World) (name key : List ℕ) → finite.get world.store key ≡ None
+        → string_row world StringCmd.StrLen (name ∷ key ∷ []) ≡ answers (Reply.Int (pos 0)) }
+    ensures mget_of_none { (world : World) (name : List ℕ)
+        → string_row world StringCmd.MGet (name ∷ []) ≡ answers (array []) }
+    ensures mget { (world : World) (name key text : List ℕ) (keys : List (List ℕ)) (entry : Entry)
+        → finite.get world.store key ≡ Some entry → entry.value ≡ Value.Str text
+        → (others : List Reply) × (string_row world StringCmd.MGet (name ∷ keys) ≡ answers (array others))
+        × (string_row world StringCmd.MGet (name ∷ key ∷ keys) ≡ answers (array (Reply.Bulk text ∷ others))) }
+    ensures mget_absent { (world : World) (name key : List ℕ) (keys : List (List ℕ))
+        → finite.get world.store key ≡ None
+        → (others : List Reply) × (string_row world StringCmd.MGet (name ∷ keys) ≡ answers (array others))
+        × (string_row world StringCmd.MGet (name ∷ key ∷ keys) ≡ answers (array (Reply.NullBulk ∷ others))) }
+    ensures mget_other_kind { (world : World) (name key : List ℕ) (keys : List (List ℕ))
+        → IsOtherKind world.store key
+        → (others : List Reply) × (string_row world StringCmd.MGet (name ∷ keys) ≡ answers (array others))
+        × (string_row world StringCmd.MGet (name ∷ key ∷ keys) ≡ answers (array (Reply.NullBulk ∷ others))) }
+{}
+
+/// A command that wants a string is refused where the key holds a value of another kind, and leaves it as it was: so is
+/// SET with GET. Where a word is refused too, as one that is no integer, that comes first.
+pub fn another_kind_is_refused()
+    ensures get { (world : World) (name key : List ℕ) → IsOtherKind world.store key
+        → string_row world StringCmd.Get (name ∷ key ∷ []) ≡ refused Refusal.WrongType }
+    ensures strlen { (world : World) (name key : List ℕ) → IsOtherKind world.store key
+        → string_row world StringCmd.StrLen (name ∷ key ∷ []) ≡ refused Refusal.WrongType }
+    ensures getrange { (world : World) (name key start end : List ℕ) (first last : ℤ) → IsOtherKind world.store key
+        → number start ≡ Ok first → number end ≡ Ok last
+        → string_row world StringCmd.GetRange (name ∷ key ∷ start ∷ end ∷ []) ≡ refused Refusal.WrongType }
+    ensures set_get { (world : World) (name key value : List ℕ) (words : List (List ℕ)) (options : SetOptions)
+        (effect : Record) → IsOtherKind world.store key
+        → set_options words ≡ Ok options → options.get ≡ true
+        → set_effect world.time key value options.lasting ≡ Ok effect
+        → string_row world StringCmd.Set (name ∷ key ∷ value ∷ words) ≡ refused Refusal.WrongType }
+    ensures getset { (world : World) (name key value : List ℕ) → IsOtherKind world.store key
+        → string_row world StringCmd.GetSet (name ∷ key ∷ value ∷ []) ≡ refused Refusal.WrongType }
+    ensures getdel { (world : World) (name key : List ℕ) → IsOtherKind world.store key
+        → string_row world StringCmd.GetDel (name ∷ key ∷ []) ≡ refused Refusal.WrongType }
+    ensures getex { (world : World) (name key : List ℕ) (words : List (List ℕ)) (change : Change)
+        → IsOtherKind world.store key → getex_change world.time words ≡ Ok change
+        → string_row world StringCmd.GetEx (name ∷ key ∷ words) ≡ refused Refusal.WrongType }
+    ensures append { (world : World) (name key value : List ℕ) → IsOtherKind world.store key
+        → string_row world StringCmd.Append (name ∷ key ∷ value ∷ []) ≡ refused Refusal.WrongType }
+    ensures setrange { (world : World) (name key word value : List ℕ) (offset : ℤ) → IsOtherKind world.store key
+        → number word ≡ Ok offset
+        → string_row world StringCmd.SetRange (name ∷ key ∷ word ∷ value ∷ []) ≡ refused Refusal.WrongType }
+    ensures incr { (world : World) (name key : List ℕ) → IsOtherKind world.store key
+        → string_row world StringCmd.Incr (name ∷ key ∷ []) ≡ refused Refusal.WrongType }
+    ensures decr { (world : World) (name key : List ℕ) → IsOtherKind world.store key
+        → string_row world StringCmd.Decr (name ∷ key ∷ []) ≡ refused Refusal.WrongType }
+    ensures incrby { (world : World) (name key word : List ℕ) (n : ℤ) → IsOtherKind world.store key
+        → number word ≡ Ok n
+        → string_row world StringCmd.IncrBy (name ∷ key ∷ word ∷ []) ≡ refused Refusal.WrongType }
+    ensures decrby { (world : World) (name key word : List ℕ) (n : ℤ) → IsOtherKind world.store key
+        → number word ≡ Ok n
+        → string_row world StringCmd.DecrBy (name ∷ key ∷ word ∷ []) ≡ refused Refusal.WrongType }
 {}
 
 /// A command on strings that answers a fault does nothing.
 pub fn a_fault_does_nothing_to_strings()
-    ensures { (store : Store) (now : ℕ) (id : CmdId) (words : List (List ℕ)) (text : List ℕ)
-        → (string_row store now id words).reply ≡ Reply.Fault text
-        → ((string_row store now id words).records ≡ []) × ((string_row store now id words).draws ≡ 0) }
+    ensures { (world : World) (id : StringCmd) (words : List (List ℕ)) (text : List ℕ)
+        → (string_row world id words).reply ≡ Reply.Fault text
+        → ((string_row world id words).records ≡ []) × ((string_row world id words).draws ≡ 0) }
 {}
 
 /// Each command on strings has a row: with the fewest words that it takes, and so without options, none is a syntax
 /// error.
 pub fn each_command_on_strings_has_a_row()
-    ensures { (store : Store) (now : ℕ) (id : CmdId) (words : List (List ℕ)) → is_of_strings id ≡ true
-        → length words ≡ (command id).least
-        → (string_row store now id words).reply ≢ Reply.Fault (refusal_text Refusal.Syntax) }
+    ensures { (world : World) (id : StringCmd) (words : List (List ℕ)) → length words ≡ (string_command id).least
+        → (string_row world id words).reply ≢ Reply.Fault (refusal_text Refusal.Syntax) }
 {}

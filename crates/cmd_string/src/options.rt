@@ -1,10 +1,9 @@
 ghost use Rattle.std.specs.Prelude.{◌≡◌, IfOk};
-ghost use Rattle.ks_space.specs.Store.{IsShort, IsDeadline};
-ghost use Rattle.fx_record.specs.RecordWords.{IsRecord};
+ghost use Rattle.ks_space.specs.Store.{IsDeadline};
 ghost use Rattle.cmd_string.specs.Options.{is_word, expiry_named, set_word, with_option, with_word, with_words};
 ghost use Rattle.cmd_string.specs.Options.{no_option, complete, set_options, deadline_read, set_effect};
 
-use cmd_args::{CmdId, Refusal};
+use cmd_args::{CmdId, Refusal, StringCmd};
 use cmd_rows::{Expiry, deadline, number, set_until};
 use fx_record::Record;
 use rs_base::Bytes;
@@ -200,16 +199,13 @@ pub(crate) fn set_effect(
     value: Bytes,
     lasting: Option<Lasting>,
 ) -> Result<Record, Refusal>
-    requires key { IsShort key }
-    requires value { IsShort value }
-    ensures value { result ≡ set_effect now key value lasting }
-    ensures within { IfOk result IsRecord }
+    ensures { result ≡ set_effect now key value lasting }
 {
     match lasting {
         None => Ok(Record::Set { key, value }),
         Some(Lasting::Keeping) => Ok(Record::SetKeeping { key, value }),
         Some(Lasting::Until(kind, read)) => {
-            let at = deadline_read(CmdId::Set, now, kind, read)?;
+            let at = deadline_read(CmdId::Strings(StringCmd::Set), now, kind, read)?;
             Ok(set_until(key, value, now, at))
         }
     }

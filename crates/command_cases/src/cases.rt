@@ -1,12 +1,14 @@
 ghost use Rattle.std.specs.Prelude.{◌≡◌, ◌∷◌, [], ◌++◌, OnOk};
 ghost use Rattle.rs_base.specs.Escape.{spelling};
 
-use crate::line::{Line, Turn};
+use crate::line::{Line, Opening, Turn};
 use anyhow::{Result, bail};
-use cmd_args::Mode;
-use cmd_exec::Desk;
+use cmd_args::{Ctx, Mode};
+use cmd_exec::{Desk, exec};
 use fx_log::dump;
 use fx_record::Record;
+use ks_space::{Entry, Space, Value};
+use ks_value::ListValue;
 use resp_reply::{Reply, put};
 use rs_base::{Bytes, NoMemory, Words, escape};
 use std::alloc::Global;
@@ -43,16 +45,16 @@ impl Cases {
                 self.end()?;
                 self.text.append(b"\n")?;
             }
-            Line::Note => {
-                self.text.append(text.as_bytes())?;
-                self.text.append(b"\n")?;
-            }
-            Line::Case(turn) => {
+            Line::Note => self.copy(text)?,
+            Line::Case(opening) => {
                 self.end()?;
-                self.begin(turn)?;
+                self.open(opening)?;
             }
             Line::Turn(turn) => self.begin(turn)?,
-            Line::Command(words) => self.carry_out(&words)?,
+            Line::Command(words) => {
+                self.echo(text)?;
+                self.carry_out(&words)?;
+            }
         }
         Ok(())
     }
@@ -65,6 +67,16 @@ impl Cases {
         put_indented(lines.as_slice(), &mut self.text)
     }
 
+    fn open(&mut self, opening: Opening) -> Result<(), NoMemory> {
+        let space = if opening.has_list {
+            space_with_list(self.alloc)?
+        } else {
+            Space::new(self.alloc)
+        };
+        self.desk = Desk::over(space, Ctx { time: 0 }, opening.mode, 0);
+        self.begin(opening.turn)
+    }
+
     // Begins a turn, and writes the keys that leave at it.
     fn begin(&mut self, turn: Turn) -> Result<(), NoMemory> {
         let keys = self.desk.begin(turn.time, turn.word)?;
@@ -74,9 +86,21 @@ impl Cases {
         Ok(())
     }
 
+    // Writes a line as it was read.
+    fn copy(&mut self, text: &str) -> Result<(), NoMemory> {
+        self.text.append(text.as_bytes())?;
+        self.text.append(b"\n")
+    }
+
+    // Writes a command beside its answer.
+    fn echo(&mut self, text: &str) -> Result<(), NoMemory> {
+        self.text.append(b"> ")?;
+        self.copy(text)
+    }
+
     // Carries out a command, and writes its reply and its records.
     fn carry_out(&mut self, words: &Words) -> Result<(), NoMemory> {
-        let reply = self.desk.exec(words)?;
+        let reply = exec(&mut self.desk, words)?;
         self.put_reply(&reply)?;
         for record in self.desk.take_effects().as_slice() {
             self.put_record(record)?;
@@ -98,6 +122,19 @@ impl Cases {
         }
         self.text.append(b"\n")
     }
+}
+
+// A store whose key `list` holds a list of one item.
+fn space_with_list(alloc: Global) -> Result<Space, NoMemory> {
+    let mut items = ListValue::new(alloc);
+    items.push_back(Bytes::from_slice(alloc, b"item")?)?;
+    let entry = Entry {
+        value: Value::List(items),
+        deadline: None,
+    };
+    let mut space = Space::new(alloc);
+    space.put(Bytes::from_slice(alloc, b"list")?, entry)?;
+    Ok(space)
 }
 
 // Writes a line of a name and a word, which is escaped.

@@ -1,6 +1,6 @@
 -- What words are as commands of a log.
-use Rattle.std.proofs.Common.{◌≡◌, ℕ, true, false, cond, Option, Some, None, List, [], ◌∷◌, inl, inr, refl, sym, ap}
-use Rattle.std.proofs.Common.{◌∙◌, true≢false, arith}
+use Rattle.std.proofs.Common.{◌≡◌, ℕ, ◌<◌, length, true, false, cond, Option, Some, None, List, [], ◌∷◌, inl, inr}
+use Rattle.std.proofs.Common.{refl, sym, ap, ◌∙◌, true≢false, arith}
 use Rattle.std.specs.Prelude.{codes}
 use Rattle.std.specs.Str.{bytes_eq}
 use Rattle.std.proofs.lemmas.Bool.{cond_both}
@@ -9,7 +9,7 @@ use Rattle.fx_record.specs.declared.record.Record.{Record}
 use Rattle.fx_record.specs.declared.record.Record.TheVariants.{Set, SetUntil, SetKeeping, Del, ExpireAt, Persist}
 use Rattle.fx_record.specs.declared.record.Record.TheVariants.{Rename, FlushAll}
 use Rattle.fx_record.specs.RecordWords.{words_of, record_of, IsRecord}
-use Rattle.fx_record.proofs.WordLaws.{record_of-words, record_of-only, record_of-within, length-deadline}
+use Rattle.fx_record.proofs.WordLaws.{record_of-words, record_of-only, record_of-within, words-within}
 use Rattle.resp_read.specs.Frames.{IsCommand}
 use Rattle.fx_log.specs.declared.command.LogCommand.{LogCommand}
 use Rattle.fx_log.specs.declared.command.LogCommand.TheVariants.{Multi, Exec, Record as OneRecord, Other}
@@ -45,53 +45,19 @@ command-record r within =
 
 -- the words of a record are a command, within its limits
 pub IsCommand-words : (r : Record) → IsRecord r → IsCommand (words_of r)
-IsCommand-words (Set key value) h = record {
-  some = omega arith;
-  few = omega arith;
-  each = (omega arith, (h.0, (h.1, tt)));
-  all = omega arith;
-}
-IsCommand-words (SetUntil key value deadline) h =
-    let number = length-deadline deadline h.2 in
-    record {
-      some = omega arith;
-      few = omega arith;
-      each = (omega arith, (h.0, (h.1, (omega arith, (omega arith, tt)))));
-      all = omega arith;
-    }
-IsCommand-words (SetKeeping key value) h = record {
-  some = omega arith;
-  few = omega arith;
-  each = (omega arith, (h.0, (h.1, (omega arith, tt))));
-  all = omega arith;
-}
-IsCommand-words (Del key) h = record {
-  some = omega arith;
-  few = omega arith;
-  each = (omega arith, (h, tt));
-  all = omega arith;
-}
-IsCommand-words (ExpireAt key deadline) h =
-    let number = length-deadline deadline h.1 in
-    record { some = omega arith; few = omega arith; each = (omega arith, (h.0, (omega arith, tt))); all = omega arith }
-IsCommand-words (Persist key) h = record {
-  some = omega arith;
-  few = omega arith;
-  each = (omega arith, (h, tt));
-  all = omega arith;
-}
-IsCommand-words (Rename from to) h = record {
-  some = omega arith;
-  few = omega arith;
-  each = (omega arith, (h.0, (h.1, tt)));
-  all = omega arith;
-}
-IsCommand-words FlushAll h = record {
-  some = omega arith;
-  few = omega arith;
-  each = (omega arith, tt);
-  all = omega arith;
-}
+IsCommand-words r h =
+    let within = words-within r h in
+    record { some = some r; few = within.few; each = within.each; all = within.all }
+  where
+    some : (r : Record) → 0 < length (words_of r)
+    some (Set key value) = omega arith
+    some (SetUntil key value deadline) = omega arith
+    some (SetKeeping key value) = omega arith
+    some (Del key) = omega arith
+    some (ExpireAt key deadline) = omega arith
+    some (Persist key) = omega arith
+    some (Rename from to) = omega arith
+    some FlushAll = omega arith
 
 -- the words of a command of a log
 abbrev pub AreWordsOf : List (List ℕ) → LogCommand → Type 0

@@ -1,5 +1,5 @@
--- The dump of a store, as text, and records applied one after another.
-use Rattle.std.specs.Prelude.{◌≡◌, ℕ, ℤ, Option, Some, None, List, ◌∷◌, [], ◌++◌, decimal, codes}
+-- The dump of a store, as text, and what groups lead to.
+use Rattle.std.specs.Prelude.{ℕ, ℤ, Option, Some, None, List, ◌∷◌, [], ◌++◌, decimal, codes}
 use Rattle.std.specs.List.{flat_map}
 use Rattle.std.specs.Option.{option_map_or}
 use Rattle.std.specs.FinMap as finite
@@ -11,7 +11,7 @@ use Rattle.ks_space.specs.declared.entry.Value.{Value}
 use Rattle.ks_space.specs.declared.entry.Value.TheVariants as value
 use Rattle.fx_record.specs.declared.record.Record.{Record}
 use Rattle.ks_space.specs.Store.{Store}
-use Rattle.fx_record.specs.Records.{applied, replay}
+use Rattle.fx_record.specs.Records.{replay}
 use Rattle.fx_log.specs.declared.group.Group.{Group}
 
 abbrev pub deadline_text : Option ℕ → List ℕ
@@ -59,13 +59,6 @@ line_at store key = option_map_or (λ entry. entry_line (key, entry)) (finite.ge
 -- a line for each key, in the order of the keys' bytes
 abbrev pub dump : Store → List ℕ
 dump store = flat_map entry_line (finite.entries store)
-
--- the store after some first records of these
-pub record IsPartlyApplied (old : Store) (records : List Record) (new : Store) : Type 0 where
-  pub front : List Record
-  pub back : List Record
-  pub records_are : records ≡ front ++ back
-  pub new_is : new ≡ applied old front
 
 -- the records of groups, in order
 abbrev pub records_in : List Group → List Record

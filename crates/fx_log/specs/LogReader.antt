@@ -1,5 +1,5 @@
 -- What a reader of a log keeps and answers.
-use Rattle.std.specs.Prelude.{◌≡◌, ℕ, List, [], ◌++◌}
+use Rattle.std.specs.Prelude.{◌≡◌, ℕ, List, [], ◌++◌, All}
 use Rattle.resp_read.specs.Reading.{HasRead}
 use Rattle.fx_log.specs.declared.group.Group.{Group}
 use Rattle.fx_log.specs.declared.reader.State.{State}
@@ -7,6 +7,7 @@ use Rattle.fx_log.specs.declared.reader.State.TheVariants as state
 use Rattle.fx_log.specs.declared.stops.LogKind.{LogKind}
 use Rattle.fx_log.specs.declared.stops.LogStop.{LogStop}
 use Rattle.fx_log.specs.declared.stops.LogStop.TheVariants.{Bad, Failed, NoMemory}
+use Rattle.fx_log.specs.Groups.{IsWithin}
 use Rattle.fx_log.specs.Items.{Item}
 use Rattle.fx_log.specs.Logs.{IsLog, IsGroups, IsBadLog, HasBadPlace}
 use Rattle.fx_log.specs.Reading.{LogRead, Breaks}
@@ -42,6 +43,12 @@ StopsLog text piece (Bad before place kind) old new = BreaksOff text piece befor
 StopsLog text piece Failed old new = (old ≡ state.Failed) × HasReadLog new (text ++ piece) × AddsGroups text piece []
     × HasBadPlace text
 StopsLog text piece NoMemory old new = new ≡ state.OutOfMemory
+
+-- each record of the groups before a bad place is within the limits
+abbrev pub IsStopWithin : LogStop → Type 0
+IsStopWithin (Bad before place kind) = All IsWithin before
+IsStopWithin Failed = Unit {0}
+IsStopWithin NoMemory = Unit {0}
 
 -- the answer to commands that are read so
 abbrev pub IsStopOf : LogRead → LogStop → State → Type 0

@@ -17,5 +17,5 @@ pub use fx_record::{Effects, Record};
 pub use group::{Group, Groups, write_group};
 pub use laws::{groups_are_read_back, log_reading_is_the_grammar};
 pub use reader::LogReader;
-pub use replay::replay_into;
+pub use replay::{apply, replay_into};
 pub use stops::{LogKind, LogStop};

@@ -6,7 +6,7 @@ ghost use Rattle.fx_log.specs.Groups.{IsWithin};
 ghost use Rattle.fx_log.specs.Items.{IsOpen};
 ghost use Rattle.fx_log.specs.declared.reader.State.{State};
 ghost use Rattle.fx_log.specs.Reading.{Reads, read_from, before_frame};
-ghost use Rattle.fx_log.specs.LogReader.{HasReadLog, GoesOn, StopsLog, IsStopOf};
+ghost use Rattle.fx_log.specs.LogReader.{HasReadLog, GoesOn, StopsLog, IsStopOf, IsStopWithin};
 
 use crate::run::{Run, take_all};
 use crate::{Effects, Groups, LogKind, LogStop};
@@ -68,6 +68,7 @@ impl LogReader {
     /// call from the first one in which memory ran out.
     pub fn feed(&mut self, piece: &[u8]) -> Result<Groups, LogStop>
         ensures within { IfOk result (All IsWithin) }
+        ensures before { IfErr result IsStopWithin }
         ensures failed { self.old ≡ State.Failed → (result ≡ Err LogStop.Failed) × (self.new ≡ State.Failed) }
         ensures spent { self.old ≡ State.OutOfMemory
             → (result ≡ Err LogStop.NoMemory) × (self.new ≡ State.OutOfMemory) }
@@ -100,6 +101,7 @@ impl LogReader {
         requires state { self.old ≡ State.OutOfMemory }
         requires opened { IsOpen opened }
         ensures within { IfOk result (All IsWithin) }
+        ensures before { IfErr result IsStopWithin }
         ensures goes { (text : List ℕ) → HasReadLog (State.Reading reader opened) text
             → IfOk result (λ groups. GoesOn text piece.now groups self.new) }
         ensures stops { (text : List ℕ) → HasReadLog (State.Reading reader opened) text

@@ -1,21 +1,30 @@
-ghost use Rattle.std.specs.Prelude.{◌≡◌, OnOk, OnErr};
-ghost use Rattle.fx_record.specs.Records.{applied};
+ghost use Rattle.std.specs.Prelude.{◌≡◌, IsSome, IfSome, OnOk};
+ghost use Rattle.fx_record.specs.Records.{apply, applied};
+ghost use Rattle.fx_record.specs.RecordWords.{record_of};
 ghost use Rattle.fx_log.specs.Groups.{IsWithin};
-ghost use Rattle.fx_log.specs.Dump.{IsPartlyApplied};
 
-use crate::Group;
-use fx_record::apply;
+use crate::{Group, Record};
 use ks_space::Space;
-use rs_base::NoMemory;
+use rs_base::{NoMemory, Words};
 
-/// Does to the store what the records of a group say, in order. After `NoMemory` it is as some first of them left it.
+/// Does to the store what the record says that has these words. After `NoMemory` the store is only good for dropping.
+pub fn apply(space: &mut Space, words: &Words) -> Result<(), NoMemory>
+    requires { IsSome (record_of words.now) }
+    ensures { OnOk result (IfSome (record_of words.now) (λ r. space.new ≡ apply space.old r)) }
+{
+    let Some(record) = Record::from_words(words.clone()?) else {
+        unreachable!()
+    };
+    fx_record::apply(space, &record)
+}
+
+/// Does to the store what the records of a group say, in order. After `NoMemory` the store is only good for dropping.
 pub fn replay_into(space: &mut Space, group: &Group) -> Result<(), NoMemory>
     requires { IsWithin group.now }
-    ensures ok { OnOk result (space.new ≡ applied space.old group.now.records) }
-    ensures err { OnErr result (IsPartlyApplied space.old group.now.records space.new) }
+    ensures { OnOk result (space.new ≡ applied space.old group.now.records) }
 {
     for record in group.records.as_slice() {
-        apply(space, record)?;
+        fx_record::apply(space, record)?;
     }
     Ok(())
 }

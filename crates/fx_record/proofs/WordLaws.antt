@@ -1,8 +1,8 @@
 -- Words as records, and records as words.
 use Rattle.std.proofs.Common.{◌≡◌, ℕ, ◌<◌, ◌≤◌, ◌^◌, Bool, true, false, cond, ◌&&◌, List, [], ◌∷◌, Option, Some, None}
-use Rattle.std.proofs.Common.{length, ◌⊎◌, inl, inr, refl, sym, ap, subst, ◌∙◌, leb, ltb, decimal, arith}
-use Rattle.std.specs.Prelude.{codes}
-use Rattle.std.specs.List.{list_all}
+use Rattle.std.proofs.Common.{length, ◌⊎◌, inl, inr, refl, sym, ap, subst, ◌∙◌, ltb, decimal, arith}
+use Rattle.std.specs.Prelude.{codes, nat_le}
+use Rattle.std.specs.List.{AllByRecursion, list_all, sum_by}
 use Rattle.std.specs.Option.{option_map, IfSome}
 use Rattle.std.specs.Str.{bytes_eq}
 use Rattle.std.specs.Str.Parse.{digits_value}
@@ -15,7 +15,7 @@ use Rattle.fx_record.specs.declared.record.Record.{Record}
 use Rattle.fx_record.specs.declared.record.Record.TheVariants.{Set, SetUntil, SetKeeping, Del, ExpireAt, Persist}
 use Rattle.fx_record.specs.declared.record.Record.TheVariants.{Rename, FlushAll}
 use Rattle.fx_record.specs.RecordWords.{words_of, record_of, record_shaped, deadline_of, alone, with_one, with_two}
-use Rattle.fx_record.specs.RecordWords.{with_three, with_four, is_short, IsRecord}
+use Rattle.fx_record.specs.RecordWords.{with_three, with_four, is_short, are_within_limits, AreWithinLimits, IsRecord}
 
 either : {A : Type 0} (b : Bool) (x y : Option A) (r : A) → cond b x y ≡ Some r
     → ((b ≡ true) × (x ≡ Some r)) ⊎ ((b ≡ false) × (y ≡ Some r))
@@ -153,10 +153,14 @@ short-true word short = le-leb (length word) 16777216 short
 short-is : (word : List ℕ) → is_short word ≡ true → IsShort word
 short-is word e = leb-true (length word) 16777216 e
 
--- the record of words within the limit of a word
+-- what is read of words that are read
 pub record_of-shaped : (words : List (List ℕ)) (r : Record) → record_of words ≡ Some r
     → (list_all is_short words ≡ true) × (record_shaped words ≡ Some r)
-record_of-shaped words r e = held (list_all is_short words) (record_shaped words) r e
+record_of-shaped words r e =
+    let out = held (are_within_limits words) (record_shaped words) r e in
+    let sized = and_parts (nat_le (length words) 65536)
+    (list_all is_short words && nat_le (sum_by length words) 67108864) out.0 in
+    ((and_parts (list_all is_short words) (nat_le (sum_by length words) 67108864) sized.1).0, out.1)
 
 pub record_of-only : (words : List (List ℕ)) (r : Record) → record_of words ≡ Some r → words ≡ words_of r
 record_of-only words r e = (reads-shaped words r (record_of-shaped words r e).1).0
@@ -201,22 +205,57 @@ record_of-within words r e =
 pub length-deadline : (deadline : ℕ) → IsDeadline deadline → length (decimal deadline) ≤ 20
 length-deadline deadline fits = length-decimal-le 20 deadline (omega arith) (omega arith) (omega arith)
 
-decimal_short : (deadline : ℕ) → IsDeadline deadline → is_short (decimal deadline) ≡ true
-decimal_short deadline fits = let short = length-deadline deadline fits in short-true (decimal deadline) (omega arith)
+all-short : (words : List (List ℕ)) → AllByRecursion IsShort words → list_all is_short words ≡ true
+all-short [] each = refl
+all-short (word ∷ words) each =
+    ap (λ b. b && list_all is_short words) (short-true word each.0) ∙ all-short words each.1
+
+within-test : (words : List (List ℕ)) → AreWithinLimits words → are_within_limits words ≡ true
+within-test words h =
+    ap (λ b. b && (list_all is_short words && nat_le (sum_by length words) 67108864)) (le-leb (length words) 65536 h.few)
+    ∙ ap (λ b. b && nat_le (sum_by length words) 67108864) (all-short words h.each)
+    ∙ le-leb (sum_by length words) 67108864 h.all
+
+pub words-within : (r : Record) → IsRecord r → AreWithinLimits (words_of r)
+words-within (Set key value) h = record { few = omega arith; each = (omega arith, (h.0, (h.1, tt))); all = omega arith }
+words-within (SetUntil key value deadline) h =
+    let number = length-deadline deadline h.2 in
+    record {
+      few = omega arith;
+      each = (omega arith, (h.0, (h.1, (omega arith, (omega arith, tt)))));
+      all = omega arith;
+    }
+words-within (SetKeeping key value) h = record {
+  few = omega arith;
+  each = (omega arith, (h.0, (h.1, (omega arith, tt))));
+  all = omega arith;
+}
+words-within (Del key) h = record { few = omega arith; each = (omega arith, (h, tt)); all = omega arith }
+words-within (ExpireAt key deadline) h =
+    let number = length-deadline deadline h.1 in
+    record { few = omega arith; each = (omega arith, (h.0, (omega arith, tt))); all = omega arith }
+words-within (Persist key) h = record { few = omega arith; each = (omega arith, (h, tt)); all = omega arith }
+words-within (Rename from to) h = record {
+  few = omega arith;
+  each = (omega arith, (h.0, (h.1, tt)));
+  all = omega arith;
+}
+words-within FlushAll h = record { few = omega arith; each = (omega arith, tt); all = omega arith }
+
+shaped-words : (r : Record) → IsRecord r → record_shaped (words_of r) ≡ Some r
+shaped-words (Set key value) h = refl
+shaped-words (SetUntil key value deadline) h = ap (option_map (SetUntil key value)) (deadline_of-decimal deadline h.2)
+shaped-words (SetKeeping key value) h = refl
+shaped-words (Del key) h = refl
+shaped-words (ExpireAt key deadline) h = ap (option_map (ExpireAt key)) (deadline_of-decimal deadline h.1)
+shaped-words (Persist key) h = refl
+shaped-words (Rename from to) h = refl
+shaped-words FlushAll h = refl
 
 pub record_of-words : (r : Record) → IsRecord r → record_of (words_of r) ≡ Some r
-record_of-words (Set key value) h = let k = short-true key h.0 in let v = short-true value h.1 in rw (k, v) refl
-record_of-words (SetUntil key value deadline) h =
-    let k = short-true key h.0 in let v = short-true value h.1 in let d = decimal_short deadline h.2 in
-    let read = deadline_of-decimal deadline h.2 in rw (k, v, d) (ap (option_map (SetUntil key value)) read)
-record_of-words (SetKeeping key value) h = let k = short-true key h.0 in let v = short-true value h.1 in rw (k, v) refl
-record_of-words (Del key) h = let k = short-true key h in rw k refl
-record_of-words (ExpireAt key deadline) h =
-    let k = short-true key h.0 in let d = decimal_short deadline h.1 in let read = deadline_of-decimal deadline h.1 in
-    rw (k, d) (ap (option_map (ExpireAt key)) read)
-record_of-words (Persist key) h = let k = short-true key h in rw k refl
-record_of-words (Rename from to) h = let f = short-true from h.0 in let t = short-true to h.1 in rw (f, t) refl
-record_of-words FlushAll h = refl
+record_of-words r h =
+    ap (λ within. cond within (record_shaped (words_of r)) None) (within-test (words_of r) (words-within r h))
+    ∙ shaped-words r h
 
 -- a record that is found is within the limits
 pub IsRecord-found : (words : List (List ℕ)) (answer : Option Record) → answer ≡ record_of words

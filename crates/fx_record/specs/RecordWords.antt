@@ -1,7 +1,7 @@
 -- Effect records as words, and words as effect records.
-use Rattle.std.specs.Prelude.{ℕ, ◌^◌, Bool, nat_lt, nat_le, ◌&&◌, if◌then◌else◌, List, [], ◌∷◌, Option, Some, None}
+use Rattle.std.specs.Prelude.{ℕ, ◌^◌, ◌≤◌, Bool, nat_lt, nat_le, ◌&&◌, if◌then◌else◌, List, [], ◌∷◌, Option, Some, None}
 use Rattle.std.specs.Prelude.{length, codes, decimal}
-use Rattle.std.specs.List.{list_all}
+use Rattle.std.specs.List.{AllByRecursion, list_all, sum_by}
 use Rattle.std.specs.Option.{option_map}
 use Rattle.std.specs.Str.{bytes_eq}
 use Rattle.std.specs.Str.Parse.{digits_value}
@@ -71,9 +71,21 @@ record_shaped (name ∷ key ∷ value ∷ option ∷ []) = with_three name key v
 record_shaped (name ∷ key ∷ value ∷ option ∷ number ∷ []) = with_four name key value option number
 record_shaped (name ∷ key ∷ value ∷ option ∷ number ∷ other ∷ words) = None
 
+-- the limits of a command's words, and so of a record's: at most 65,536 words, each of at most 16,777,216 bytes, and
+-- 67,108,864 bytes in all
+pub record AreWithinLimits (words : List (List ℕ)) : Type 0 where
+  pub few : length words ≤ 65536
+  pub each : AllByRecursion IsShort words
+  pub all : sum_by length words ≤ 67108864
+
 abbrev pub is_short : List ℕ → Bool
 is_short word = nat_le (length word) 16777216
 
--- the record whose words these are: none for any other words, and where a word is longer than 16,777,216 bytes
+-- whether words are within the limits
+abbrev pub are_within_limits : List (List ℕ) → Bool
+are_within_limits words =
+    nat_le (length words) 65536 && (list_all is_short words && nat_le (sum_by length words) 67108864)
+
+-- the record whose words these are: none for any other words, and where they are not within the limits
 abbrev pub record_of : List (List ℕ) → Option Record
-record_of words = if list_all is_short words then record_shaped words else None
+record_of words = if are_within_limits words then record_shaped words else None

@@ -6,7 +6,7 @@ ghost use Rattle.ks_space.specs.Store.{Store, IsStore, deadline_at};
 ghost use Rattle.ks_space.specs.Purge.{IsTimely};
 ghost use Rattle.fx_record.specs.declared.record.Record.{Record};
 ghost use Rattle.fx_record.specs.Records.{string_entry, apply, applied, ChangesOnly, Moves};
-ghost use Rattle.fx_record.specs.RecordWords.{words_of, record_of, IsRecord};
+ghost use Rattle.fx_record.specs.RecordWords.{words_of, record_of, IsRecord, AreWithinLimits};
 ghost use Rattle.fx_record.specs.Settled.{settled};
 ghost use Rattle.fx_record.specs.Timely.{IsTimelyRecord};
 
@@ -43,11 +43,13 @@ pub fn records_change_their_key_alone()
         × ((to : List ℕ) → apply store (Record.Rename key to) ≡ store) }
 {}
 
-/// The law of words: those of a record within the limits are read as that record, and no other words are.
+/// The law of words: those of a record within the limits are read as that record, and no other words are. They are
+/// within the limits of a command.
 pub fn each_record_has_its_own_words()
     ensures back { (r : Record) → IsRecord r → record_of (words_of r) ≡ Some r }
     ensures only { (words : List (List ℕ)) (r : Record) → record_of words ≡ Some r → words ≡ words_of r }
     ensures within { (words : List (List ℕ)) (r : Record) → record_of words ≡ Some r → IsRecord r }
+    ensures limited { (r : Record) → IsRecord r → AreWithinLimits (words_of r) }
 {}
 
 /// Records within the limits keep a store within them.

@@ -1,9 +1,9 @@
 ghost use Rattle.std.specs.Prelude.{◌≡◌, map, IfOk, IfSome, decimal};
-ghost use Rattle.std.specs.List.{list_all};
 ghost use Rattle.std.specs.Str.{bytes_eq};
-ghost use Rattle.fx_record.specs.RecordWords.{words_of, record_of, record_shaped, IsRecord, deadline_of, is_short};
+ghost use Rattle.fx_record.specs.RecordWords.{words_of, record_of, record_shaped, IsRecord, deadline_of};
 ghost use Rattle.fx_record.specs.RecordWords.{alone, with_one, with_two, with_three, with_four};
 
+use crate::are_within_limits;
 use rs_base::{Bytes, NoMemory, Seq, Words, parse_decimal, write_decimal};
 use std::alloc::Global;
 use std::collections::VecDeque;
@@ -56,18 +56,19 @@ pub type Effects = Seq<Record>;
 /// The last deadline that there may be, in milliseconds since the Unix epoch.
 pub const MAX_DEADLINE: u64 = 9_223_372_036_854_775_807;
 
-/// How many bytes a key or a string may have.
-pub const MAX_TEXT_BYTES: usize = 16_777_216;
-
 impl Record {
     /// The record that these words are. `None` exactly where they are none: another name, in letters of another case,
-    /// another number of words, a deadline that is no decimal from 0 to 2^63-1, or a word of more than 16,777,216
-    /// bytes.
+    /// another number of words, a deadline that is no decimal from 0 to 2^63-1, or words beyond the limits of a
+    /// command.
     pub fn from_words(words: Words) -> Option<Record>
         ensures value { result ≡ record_of words }
         ensures within { IfSome result IsRecord }
     {
-        if are_short(&words) { read(words) } else { None }
+        if are_within_limits(&words) {
+            read(words)
+        } else {
+            None
+        }
     }
 
     /// The words of the record.
@@ -111,7 +112,7 @@ impl Record {
     }
 }
 
-// The record that short words are.
+// The record that words within the limits are.
 fn read(words: Words) -> Option<Record>
     ensures { result ≡ record_shaped words }
 {
@@ -134,15 +135,6 @@ fn read(words: Words) -> Option<Record>
         None => with_three(&name, key, word, &option),
         Some(number) => with_four(&name, key, word, &option, &number),
     }
-}
-
-fn are_short(words: &Words) -> bool
-    ensures { result ≡ list_all is_short words.now }
-{
-    words
-        .as_slice()
-        .iter()
-        .all(|word| word.len() <= MAX_TEXT_BYTES)
 }
 
 fn is_named(word: &Bytes, name: &[u8]) -> bool

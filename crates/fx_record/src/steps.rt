@@ -1,4 +1,4 @@
-ghost use Rattle.std.specs.Prelude.{◌≡◌, ◌↔◌, [], ◌∷◌, ◌++◌, Some, None, IsTrue, IfSome, OnOk, OnErr};
+ghost use Rattle.std.specs.Prelude.{◌≡◌, ◌↔◌, [], ◌∷◌, ◌++◌, Some, None, IsTrue, IfSome, OnOk};
 ghost use Rattle.std.specs.FinMap as finite;
 ghost use Rattle.ks_space.specs.Store.{IsKey, IsShort, IsDeadline, deadline_at, with_deadline};
 ghost use Rattle.fx_record.specs.Records.{string_entry, renamed, apply};
@@ -9,11 +9,10 @@ use crate::{Effects, Record};
 use ks_space::{Entry, Space, Value};
 use rs_base::{Bytes, NoMemory};
 
-/// Does to the store what a record says. After `NoMemory` the store is as it was.
+/// Does to the store what a record says. After `NoMemory` the store is only good for dropping.
 pub fn apply(space: &mut Space, record: &Record) -> Result<(), NoMemory>
     requires { IsRecord «record».now }
-    ensures ok { OnOk result (space.new ≡ apply space.old «record».now) }
-    ensures err { OnErr result (space.new ≡ space.old) }
+    ensures { OnOk result (space.new ≡ apply space.old «record».now) }
 {
     match record {
         Record::Set { key, value } => set(space, key, value, None),
@@ -22,12 +21,9 @@ pub fn apply(space: &mut Space, record: &Record) -> Result<(), NoMemory>
             value,
             deadline,
         } => set(space, key, value, Some(*deadline)),
-        Record::SetKeeping { key, value } => {
-            let deadline = deadline_at(space, key);
-            set(space, key, value, deadline)
-        }
+        Record::SetKeeping { key, value } => set_keeping(space, key, value),
         Record::Del { key } => {
-            space.take(key.as_slice());
+            space.take(key.as_slice())?;
             Ok(())
         }
         Record::ExpireAt { key, deadline } => expire(space, key, Some(*deadline)),
@@ -135,24 +131,12 @@ fn is_same_deadline(one: Option<u64>, other: Option<u64>) -> bool
     one == other
 }
 
-// The deadline of a key. `None` exactly where it has none, or is absent.
-fn deadline_at(space: &Space, key: &Bytes) -> Option<u64>
-    ensures value { result ≡ deadline_at space.now key.now }
-    ensures within { IfSome result IsDeadline }
-{
-    match space.get(key.as_slice()) {
-        Some(entry) => entry.deadline,
-        None => None,
-    }
-}
-
-// Gives a key a string. After `NoMemory` the store is as it was.
+// Gives a key a string.
 fn set(space: &mut Space, key: &Bytes, value: &Bytes, deadline: Option<u64>) -> Result<(), NoMemory>
     requires key { IsKey key.now }
     requires value { IsShort value.now }
     requires deadline { IfSome deadline IsDeadline }
-    ensures ok { OnOk result (space.new ≡ finite.insert space.old key.now (string_entry value.now deadline)) }
-    ensures err { OnErr result (space.new ≡ space.old) }
+    ensures { OnOk result (space.new ≡ finite.insert space.old key.now (string_entry value.now deadline)) }
 {
     let entry = Entry {
         value: Value::Str(value.clone()?),
@@ -162,35 +146,36 @@ fn set(space: &mut Space, key: &Bytes, value: &Bytes, deadline: Option<u64>) -> 
     Ok(())
 }
 
-// Gives a key that is there a deadline, or none. After `NoMemory` the store is as it was.
+// Gives a key a string, and leaves it its deadline.
+fn set_keeping(space: &mut Space, key: &Bytes, value: &Bytes) -> Result<(), NoMemory>
+    requires key { IsKey key.now }
+    requires value { IsShort value.now }
+    ensures { OnOk result (space.new
+        ≡ finite.insert space.old key.now (string_entry value.now (deadline_at space.old key.now))) }
+{
+    if is_absent(space, key) {
+        return set(space, key, value, None);
+    }
+    space.replace_value(key.as_slice(), Value::Str(value.clone()?))?;
+    Ok(())
+}
+
+// Gives a key that is there a deadline, or none.
 fn expire(space: &mut Space, key: &Bytes, deadline: Option<u64>) -> Result<(), NoMemory>
     requires { IfSome deadline IsDeadline }
-    ensures ok { OnOk result (space.new ≡ with_deadline space.old key.now deadline) }
-    ensures err { OnErr result (space.new ≡ space.old) }
+    ensures { OnOk result (space.new ≡ with_deadline space.old key.now deadline) }
 {
     space.set_deadline(key.as_slice(), deadline)?;
     Ok(())
 }
 
-// Moves what a key holds to another key. After `NoMemory` the store is as it was.
+// Moves what a key holds to another key.
 fn rename(space: &mut Space, from: &Bytes, to: &Bytes) -> Result<(), NoMemory>
     requires { IsKey to.now }
-    ensures ok { OnOk result (space.new ≡ renamed space.old from.now to.now) }
-    ensures err { OnErr result (space.new ≡ space.old) }
+    ensures { OnOk result (space.new ≡ renamed space.old from.now to.now) }
 {
-    if is_absent(space, from) || is_same(from, to) {
-        return Ok(());
-    }
-    // All that wants memory comes first: the other key, with the deadline that it is to have, holds some string by
-    // then.
-    let key = to.clone()?;
-    let place = Entry {
-        value: Value::Str(to.clone()?),
-        deadline: deadline_at(space, from),
-    };
-    space.put(to.clone()?, place)?;
-    if let Some(entry) = space.take(from.as_slice()) {
-        space.put(key, entry)?;
+    if let Some(entry) = space.take(from.as_slice())? {
+        space.put(to.clone()?, entry)?;
     }
     Ok(())
 }

@@ -15,8 +15,10 @@ use Rattle.ks_tree.proofs.ByteOrder.{bytes_total, bytes_exact}
 use Rattle.ks_tree.proofs.Order.{same_items, sorted-in_order, has-in_order}
 use Rattle.ks_space.specs.declared.entry.Entry.{Entry}
 use Rattle.ks_space.specs.declared.deadlines.Due.{Due}
-use Rattle.ks_space.specs.Store.{bytes_cmp, Store, deadline_at}
+use Rattle.ks_space.specs.declared.entry.Value.{Value}
+use Rattle.ks_space.specs.Store.{bytes_cmp, Store, deadline_at, with_value}
 use Rattle.ks_space.specs.Purge.{due_cmp, with_due, dues_of, dues}
+use Rattle.ks_space.proofs.Stores.{with_value-insert, with_value-none}
 use Rattle.ks_space.specs.Index.{IsIndex, due_of, is_due, is_at, has_due}
 
 -- the order of the dues is total, and tells all dues apart
@@ -247,6 +249,18 @@ module _ (store : Store) (k : List ℕ) (list : List Due) where
       (λ i. not (is_due-due_of q k d i) && has_due store q)
       ∙ left (is_at d q.at) (has_due store q) (eq_by_cmp bytes_cmp q.key k) (here store k d q is)
       ∙ sym (has_due-remove store k q))
+
+-- a value that changes in its place leaves the dues as they are
+pub dues-with_value : (store : Store) (k : List ℕ) (v : Value) (list : List Due) → list ≡ dues store
+    → list ≡ dues (with_value store k v)
+dues-with_value store k v list index = by_found (finite.get store k) refl
+  where
+    by_found : (found : Option Entry) → finite.get store k ≡ found → list ≡ dues (with_value store k v)
+    by_found None absent = index ∙ ap dues (sym (with_value-none store k v absent))
+    by_found (Some e) there =
+        dues-insert_same store k list (record e { value = v })
+        (ap (option_and_then (λ (x : Entry). x.deadline)) there) index
+        ∙ ap dues (sym (with_value-insert store k e v there))
 
 pub dues-empty : [] ≡ dues finite.empty
 unfolding IsStrictlySortedBy

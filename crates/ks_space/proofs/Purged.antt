@@ -1,7 +1,7 @@
 -- Which keys leave at a purge, and what it keeps.
 use Rattle.std.proofs.Common.{◌≡◌, ◌↔◌, ℕ, ◌<◌, ◌≤◌, nat_lt, Bool, true, false, cond, List, [], ◌∷◌, Option, Some}
 use Rattle.std.proofs.Common.{None, option_and_then, map, filter, fold, Contains, IfSome, IsSomeAnd, refl, sym, ap}
-use Rattle.std.proofs.Common.{subst, ◌∙◌, Less, Equal, nat_cmp, arith, ◌||◌, ◌&&◌, true≢false}
+use Rattle.std.proofs.Common.{subst, ◌∙◌, Less, nat_cmp, arith, ◌||◌, ◌&&◌, true≢false}
 use Rattle.std.specs.List.{AllByRecursion, list_any}
 use Rattle.std.specs.List.Sorted.{IsStrictlySortedBy}
 use Rattle.std.specs.Ordering.{is_eq, eq_by_cmp, ordering_then}

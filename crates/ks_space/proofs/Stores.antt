@@ -1,12 +1,13 @@
 -- What a store may hold stays so.
 use Rattle.std.proofs.Common.{◌≡◌, ℕ, Bool, true, false, cond, List, Option, Some, None, refl, sym, ap, subst, ◌∙◌}
 use Rattle.std.proofs.Common.{unwrap_or}
-use Rattle.std.specs.Option.{option_map_or}
+use Rattle.std.specs.Option.{IfSome, option_map, option_map_or}
 use Rattle.std.specs.Ordering.{eq_by_cmp}
 use Rattle.std.specs.Cmp.{Equal-is}
 use Rattle.std.specs.FinMap as finite
 use Rattle.ks_space.specs.declared.entry.Entry.{Entry}
-use Rattle.ks_space.specs.Store.{bytes_cmp, Store, IsKey, IsKept, IsStore, with_deadline}
+use Rattle.ks_space.specs.declared.entry.Value.{Value}
+use Rattle.ks_space.specs.Store.{bytes_cmp, Store, IsKey, IsValue, IsKept, IsStore, with_deadline, with_value}
 use Rattle.ks_tree.proofs.ByteOrder.{bytes_total, bytes_exact}
 
 same_Some : {A : Type 0} (x y : A) → Some x ≡ Some y → x ≡ y
@@ -63,3 +64,35 @@ pub with_deadline-none : (store : Store) (k : List ℕ) (d : Option ℕ) → fin
     → with_deadline store k d ≡ store
 with_deadline-none store k d is =
     ap (λ o. option_map_or (λ (x : Entry). finite.insert store k (record x { deadline = d })) o store) is
+
+-- a value changes, where the key is there
+pub with_value-insert : (store : Store) (k : List ℕ) (e : Entry) (v : Value) → finite.get store k ≡ Some e
+    → with_value store k v ≡ finite.insert store k (record e { value = v })
+with_value-insert store k e v is =
+    ap (λ o. option_map_or (λ (x : Entry). finite.insert store k (record x { value = v })) o store) is
+
+pub with_value-none : (store : Store) (k : List ℕ) (v : Value) → finite.get store k ≡ None
+    → with_value store k v ≡ store
+with_value-none store k v is =
+    ap (λ o. option_map_or (λ (x : Entry). finite.insert store k (record x { value = v })) o store) is
+
+pub IsStore-with_value : (store : Store) (k : List ℕ) (v : Value) → IsStore store → IsValue v
+    → IsStore (with_value store k v)
+IsStore-with_value store k v h value = by_found (finite.get store k) refl
+  where
+    by_found : (found : Option Entry) → finite.get store k ≡ found → IsStore (with_value store k v)
+    by_found None absent = subst IsStore (sym (with_value-none store k v absent)) h
+    by_found (Some e) there =
+        let kept = h k e there in
+        subst IsStore (sym (with_value-insert store k e v there))
+        (IsStore-insert store k (record e { value = v }) h kept.0 (value, kept.1.1))
+
+-- the value of a key is one that a store may hold
+pub value_kept : (store : Store) (k : List ℕ) → IsStore store
+    → IfSome (option_map (λ (e : Entry). e.value) (finite.get store k)) IsValue
+value_kept store k h = by_found (finite.get store k) refl
+  where
+    by_found : (found : Option Entry) → finite.get store k ≡ found → IfSome (option_map (λ (e : Entry). e.value) found)
+        IsValue
+    by_found None absent = tt
+    by_found (Some e) there = (h k e there).1.0

@@ -4,6 +4,7 @@ use Rattle.std.specs.Option.{option_and_then, option_map_or}
 use Rattle.std.specs.FinMap as finite
 use Rattle.ks_value.specs.Fields.{HasDistinctFields}
 use Rattle.ks_value.specs.Members.{IsAscending}
+use Rattle.ks_zset.specs.Zset.{HasWholeScores}
 use Rattle.ks_space.specs.declared.entry.Entry.{Entry}
 use Rattle.ks_space.specs.declared.entry.Value.{Value}
 use Rattle.ks_space.specs.declared.entry.Value.TheVariants as value
@@ -22,6 +23,11 @@ abbrev pub with_deadline : Store → List ℕ → Option ℕ → Store
 with_deadline store key deadline =
     option_map_or (λ entry. finite.insert store key (record entry { deadline = deadline })) (finite.get store key) store
 
+-- the store in which a key that is there has this value, and its deadline as it was
+abbrev pub with_value : Store → List ℕ → Value → Store
+with_value store key value =
+    option_map_or (λ entry. finite.insert store key (record entry { value = value })) (finite.get store key) store
+
 -- at most 16,777,216 bytes
 abbrev pub IsShort : List ℕ → Type 0
 IsShort text = length text ≤ 16777216
@@ -35,14 +41,15 @@ abbrev pub IsDeadline : ℕ → Type 0
 IsDeadline at = at < 2 ^ 63
 
 -- a value that a store may hold: no collection is empty, no field of a hash stands twice, the members of a set ascend
--- in byte order, and each text is short
+-- in byte order, each score is a whole number of magnitude at most 2^53, and each text is short
 abbrev pub IsValue : Value → Type 0
 IsValue (value.Str text) = IsShort text
 IsValue (value.List items) = (items ≢ []) × All IsShort items
 IsValue (value.Hash pairs) = (pairs ≢ []) × HasDistinctFields pairs × All (λ p. IsShort p.0 × IsShort p.1) pairs
 IsValue (value.Set members) = (members ≢ []) × IsAscending members × All IsShort members
 IsValue (value.Sorted scores) =
-    (finite.len scores ≢ 0) × ((member : List ℕ) (score : ℤ) → finite.get scores member ≡ Some score → IsShort member)
+    (finite.len scores ≢ 0) × HasWholeScores scores
+    × ((member : List ℕ) (score : ℤ) → finite.get scores member ≡ Some score → IsShort member)
 
 -- an entry that a store may hold
 abbrev pub IsKept : Entry → Type 0

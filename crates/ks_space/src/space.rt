@@ -1,18 +1,19 @@
-ghost use Rattle.std.specs.Prelude.{◌≡◌, Some, ◌≢◌, ◌↔◌, IsTrue, OnOk, OnErr, IfOk, IfSome, IfNone, is_some, slice_get};
-ghost use Rattle.std.specs.Prelude.{[], ◌∷◌};
+ghost use Rattle.std.specs.Prelude.{◌≡◌, ◌↔◌, IsTrue, OnOk, IfOk, IfSome, IfNone, is_some, slice_get, [], ◌∷◌};
 ghost use Rattle.std.specs.Option.{option_copied, option_map};
 ghost use Rattle.std.specs.FinMap as finite;
-ghost use Rattle.ks_space.specs.Store.{IsKey, IsKept, IsStore, IsDeadline, with_deadline};
+ghost use Rattle.ks_space.specs.Store.{IsKey, IsValue, IsKept, IsStore, IsDeadline, with_deadline, with_value};
 ghost use Rattle.ks_space.specs.Purge.{gone, purged};
 
-use crate::Entry;
 use crate::deadlines::{Deadlines, Due};
 use crate::table::Table;
+use crate::{Entry, Value};
 use rs_base::{Bytes, NoMemory, Words};
 use std::alloc::Global;
 use std::marker::Model;
 
 /// Keys with their entries. Contracts see it as a finite map in the order of the keys' bytes.
+///
+/// After a call that changes it has answered `NoMemory`, a store is only good for dropping.
 #[derive(Drop)]
 pub struct Space {
     alloc: Global,
@@ -50,6 +51,11 @@ impl Space {
         }
     }
 
+    /// The allocator that the store takes its memory from.
+    pub fn alloc(&self) -> Global {
+        self.alloc
+    }
+
     /// The entry of a key. `None` exactly where the key is absent.
     pub fn get(&self, key: &[u8]) -> Option<&Entry>
         ensures entry { option_copied result ≡ finite.get self.now key.now }
@@ -59,16 +65,13 @@ impl Space {
         self.table.get(key)
     }
 
-    /// Gives a key an entry in place of any other, and answers that other one. After `NoMemory` the store is as it was.
+    /// Gives a key an entry in place of any other, and answers that other one.
     pub fn put(&mut self, key: Bytes, entry: Entry) -> Result<Option<Entry>, NoMemory>
         requires key { IsKey key }
         requires entry { IsKept entry }
         ensures old { IfOk result (λ old. old ≡ finite.get self.old key) }
         ensures kept { IfOk result (λ old. IfSome old IsKept) }
         ensures ok { OnOk result (self.new ≡ finite.insert self.old key entry) }
-        // Only a key that is new, or whose deadline changes, can want memory.
-        ensures room { OnErr result (option_map (λ old. old.deadline) (finite.get self.old key) ≢ Some entry.deadline) }
-        ensures err { OnErr result (self.new ≡ self.old) }
     {
         let before = self.table.deadline(key.as_slice());
         if are_same(before, entry.deadline) {
@@ -90,25 +93,37 @@ impl Space {
         }
     }
 
-    /// Removes a key, and answers the entry that left: `None` exactly where the key is absent. It takes no memory.
-    pub fn take(&mut self, key: &[u8]) -> Option<Entry>
-        ensures old { result ≡ finite.get self.old key.now }
-        ensures kept { IfSome result (λ old. IsKey key.now × IsKept old) }
-        ensures left { self.new ≡ finite.remove self.old key.now }
+    /// Removes a key, and answers the entry that left: `None` exactly where the key is absent.
+    pub fn take(&mut self, key: &[u8]) -> Result<Option<Entry>, NoMemory>
+        ensures old { IfOk result (λ old. old ≡ finite.get self.old key.now) }
+        ensures kept { IfOk result (λ old. IfSome old (λ entry. IsKey key.now × IsKept entry)) }
+        ensures left { OnOk result (self.new ≡ finite.remove self.old key.now) }
     {
-        let (key, entry) = self.table.cut(key)?;
+        let Some((key, entry)) = self.table.cut(key) else {
+            return Ok(None);
+        };
         let leaving = Due::of(key, entry.deadline);
         self.deadlines.leave(&leaving);
-        Some(entry)
+        Ok(Some(entry))
+    }
+
+    /// Gives a key this value in place of the one that it had, and answers that other one; its deadline stays. `None`
+    /// exactly where the key is absent, which changes nothing.
+    pub fn replace_value(&mut self, key: &[u8], value: Value) -> Result<Option<Value>, NoMemory>
+        requires { IsValue value }
+        ensures old { IfOk result (λ old. old ≡ option_map (λ entry. entry.value) (finite.get self.old key.now)) }
+        ensures kept { IfOk result (λ old. IfSome old IsValue) }
+        ensures ok { OnOk result (self.new ≡ with_value self.old key.now value) }
+    {
+        Ok(self.table.replace_value(key, value))
     }
 
     /// Gives a key this deadline, or none, in place of the one that it had; its value stays. `false` exactly where
-    /// the key is absent, which changes nothing. After `NoMemory` the store is as it was.
+    /// the key is absent, which changes nothing.
     pub fn set_deadline(&mut self, key: &[u8], deadline: Option<u64>) -> Result<bool, NoMemory>
         requires { IfSome deadline IsDeadline }
         ensures found { IfOk result (λ found. found ≡ is_some (finite.get self.old key.now)) }
         ensures ok { OnOk result (self.new ≡ with_deadline self.old key.now deadline) }
-        ensures err { OnErr result (self.new ≡ self.old) }
     {
         let Some(entry) = self.table.get(key) else {
             return Ok(false);
@@ -126,11 +141,10 @@ impl Space {
     }
 
     /// Removes the keys whose deadline is below `now`, and answers them in the order of their deadlines and then of
-    /// their bytes. After `NoMemory` the purge at `now` would leave the same store as before.
+    /// their bytes.
     pub fn purge(&mut self, now: u64) -> Result<Words, NoMemory>
         ensures keys { IfOk result (λ keys. keys ≡ gone self.old now) }
         ensures ok { OnOk result (self.new ≡ purged self.old now) }
-        ensures err { OnErr result (purged self.new now ≡ purged self.old now) }
     {
         let mut keys = Words::new(self.alloc);
         while let Some(key) = self.pop_gone(now) {

@@ -1,13 +1,14 @@
 ghost use Rattle.std.specs.Prelude.{◌≡◌, OnOk, OnErr, IfOk, IfSome, None, slice_get};
 ghost use Rattle.std.specs.Option.{option_copied, option_map};
 ghost use Rattle.std.specs.FinMap as finite;
-ghost use Rattle.ks_space.specs.Store.{deadline_at, with_deadline};
+ghost use Rattle.ks_space.specs.Store.{deadline_at, with_deadline, with_value};
 
-use crate::Entry;
+use crate::{Entry, Value};
 use indexmap::IndexMap;
 use rs_base::{Bytes, NoMemory, Words};
 use std::alloc::{AllocError, Global};
 use std::marker::Model;
+use std::mem;
 
 /// Keys with their entries, without an index of the deadlines. A key is found by its hash. Contracts see it as a
 /// finite map in the order of the keys' bytes, which is made where it is asked for.
@@ -84,6 +85,15 @@ impl Table {
         if let Some(entry) = self.entries.get_mut(key) {
             entry.deadline = deadline;
         }
+    }
+
+    /// Changes the value of a key that is there, and answers the old one: `None` exactly where the key is absent.
+    pub fn replace_value(&mut self, key: &[u8], value: Value) -> Option<Value>
+        ensures old { result ≡ option_map (λ old. old.value) (finite.get self.old key.now) }
+        ensures changed { self.new ≡ with_value self.old key.now value }
+    {
+        let entry = self.entries.get_mut(key)?;
+        Some(mem::replace(&mut entry.value, value))
     }
 
     pub fn clear(&mut self)

@@ -44,7 +44,7 @@ pub fn take(alloc: Global, space: &mut Space, items: u64) -> Option<u64> {
     let mut taken = 0u64;
     for i in 0..items {
         let key = text(alloc, scattered(i)).ok()?;
-        if space.take(key.as_slice()).is_some() {
+        if space.take(key.as_slice()).ok()?.is_some() {
             taken = taken.saturating_add(1);
         }
     }

@@ -1,2 +1,3 @@
 pub mod Ranked
 pub mod ScoreOrder
+pub mod WholeScores

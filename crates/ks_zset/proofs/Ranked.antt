@@ -1,8 +1,8 @@
 -- What the ranking of a map of scores holds, and how it changes with the map.
-use Rattle.std.proofs.Common.{◌≡◌, ℕ, suc, length, ℤ, Bool, true, false, cond, not, ◌&&◌, ◌||◌, T, List, [], ◌∷◌}
+use Rattle.std.proofs.Common.{◌≡◌, ℕ, suc, length, ℤ, Bool, true, false, cond, ◌&&◌, ◌||◌, T, List, [], ◌∷◌}
 use Rattle.std.proofs.Common.{Option, Some, None, refl, sym, ap, subst, ◌∙◌}
 use mathlib.Core.Bool.{true≢false}
-use Rattle.std.specs.List.{Contains, list_any, position}
+use Rattle.std.specs.List.{Contains, position}
 use Rattle.std.specs.Str.{bytes_eq}
 use Rattle.std.proofs.lemmas.Map.Views.{list_any-from_Contains, Contains-from_any}
 use Rattle.std.proofs.lemmas.Map.Text.{is_eq-slice_cmp}
@@ -17,7 +17,7 @@ use Rattle.std.specs.List.Sorted.{IsStrictlySortedBy}
 use Rattle.std.specs.FinMap as finite
 use Rattle.std.specs.FinMap.Entries.{find, below_all, is_sorted}
 use Rattle.std.proofs.lemmas.Cmp.{int_cmp_total, tied_itself}
-use Rattle.ks_tree.specs.Order.{bytes_cmp, in_order}
+use Rattle.ks_tree.specs.Order.{bytes_cmp}
 use Rattle.ks_tree.proofs.ByteOrder.{bytes_total, bytes_exact}
 use Rattle.ks_tree.proofs.Order.{has, same_items, sorted-in_order, sorted-insert_key, sorted-remove_key, has-in_order}
 use Rattle.ks_tree.proofs.Order.{has-insert_key, has-remove_key, all_by_has}

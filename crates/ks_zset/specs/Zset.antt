@@ -1,5 +1,5 @@
 -- Sorted sets (Redis manual, sorted sets): each member has one score, and they are ordered by score and then member.
-use Rattle.std.specs.Prelude.{ℕ, ℤ, Bool, if◌then◌else◌, not, ◌&&◌, List, int_lt}
+use Rattle.std.specs.Prelude.{◌≡◌, ℕ, ℤ, Bool, if◌then◌else◌, not, ◌&&◌, List, Some, int_lt}
 use Rattle.std.specs.declared.cmp.Ordering.{Ordering}
 use Rattle.std.specs.Ordering.{int_cmp, int_eq, ordering_then}
 use Rattle.std.specs.Str.{bytes_eq}
@@ -9,10 +9,15 @@ use Rattle.std.specs.Cmp.Lexicographic.{pointwise}
 use Rattle.std.proofs.lemmas.Cmp.{nat_list_eq_equiv, lists_equiv}
 use Rattle.std.specs.FinMap as finite
 use Rattle.ks_tree.specs.Order.{bytes_cmp, in_order}
+use Rattle.rs_whole.specs.Wholes.{IsWhole}
 
 -- the members with their scores
 abbrev pub ScoreMap : Type 0
 ScoreMap = finite.FinMap bytes_cmp ℤ
+
+-- each score is a whole number of magnitude at most 2^53
+abbrev pub HasWholeScores : ScoreMap → Type 0
+HasWholeScores z = (member : List ℕ) (score : ℤ) → finite.get z member ≡ Some score → IsWhole score
 
 -- a member with its score
 abbrev pub ScoredMember : Type 0

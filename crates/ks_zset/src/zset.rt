@@ -2,7 +2,8 @@ ghost use Rattle.std.specs.Prelude.{◌≡◌, ◌≢◌, ◌↔◌, Some, None,
 ghost use Rattle.std.specs.Prelude.{OnErr};
 ghost use Rattle.std.specs.FinMap as finite;
 ghost use Rattle.std.specs.Str.{bytes_eq};
-ghost use Rattle.ks_zset.specs.Zset.{ranking_of, is_below};
+ghost use Rattle.rs_whole.specs.Wholes.{IsWhole};
+ghost use Rattle.ks_zset.specs.Zset.{HasWholeScores, ranking_of, is_below};
 
 use crate::Scored;
 use crate::ranking::Ranking;
@@ -24,7 +25,7 @@ impl Model for Zset {
     ghost use Rattle.std.specs.Prelude.{◌≡◌};
     ghost use Rattle.std.specs.Coded.{coded_list, coded_ℕ, coded_ℤ};
     ghost use Rattle.std.specs.FinMap as finite;
-    ghost use Rattle.ks_zset.specs.Zset.{ScoreMap, ranking_of};
+    ghost use Rattle.ks_zset.specs.Zset.{ScoreMap, HasWholeScores, ranking_of};
 
     ghost Value = { ScoreMap };
 
@@ -32,7 +33,7 @@ impl Model for Zset {
 
     ghost view = { λ z. z.scores };
 
-    ghost invariant = { λ z. z.ranking ≡ ranking_of z.scores };
+    ghost invariant = { λ z. (z.ranking ≡ ranking_of z.scores) × HasWholeScores z.scores };
 }
 
 impl Zset {
@@ -55,13 +56,15 @@ impl Zset {
 
     /// The number of members.
     pub fn len(&self) -> usize
-        ensures { result ≡ finite.len self.now }
+        ensures value { result ≡ finite.len self.now }
+        ensures whole { HasWholeScores self.now }
     {
         self.scores.len()
     }
 
     pub fn is_empty(&self) -> bool
-        ensures { IsTrue result ↔ (finite.len self.now ≡ 0) }
+        ensures value { IsTrue result ↔ (finite.len self.now ≡ 0) }
+        ensures whole { HasWholeScores self.now }
     {
         self.len() == 0
     }
@@ -104,14 +107,16 @@ impl Zset {
         ensures old { IfOk result (λ old. old ≡ finite.get self.old member) }
         ensures ok { OnOk result (self.new ≡ finite.insert self.old member score) }
         ensures err { OnErr result (self.new ≡ self.old) }
+        ensures whole { HasWholeScores self.new }
     {
+        let number = score.get();
         match self.scores.get(member.as_slice()) {
             None => {
                 self.add(member, score)?;
                 Ok(None)
             }
             Some(old) => {
-                if old.get() == score.get() {
+                if old.get() == number {
                     return Ok(Some(old));
                 }
                 self.replace(member, old, score)?;
@@ -121,9 +126,11 @@ impl Zset {
     }
 
     fn add(&mut self, member: Bytes, score: Whole) -> Result<(), NoMemory>
-        requires { finite.get self.old member ≡ None }
+        requires absent { finite.get self.old member ≡ None }
+        requires whole { IsWhole score }
         ensures ok { OnOk result (self.new ≡ finite.insert self.old member score) }
         ensures err { OnErr result (self.new ≡ self.old) }
+        ensures whole { HasWholeScores self.new }
     {
         let place = self.ranking.insert(member.clone()?, score)?;
         match self.scores.insert(member, score) {
@@ -138,8 +145,10 @@ impl Zset {
     fn replace(&mut self, member: Bytes, old: Whole, score: Whole) -> Result<(), NoMemory>
         requires old { finite.get self.old member ≡ Some old }
         requires apart { old ≢ score }
+        requires whole { IsWhole score }
         ensures ok { OnOk result (self.new ≡ finite.insert self.old member score) }
         ensures err { OnErr result (self.new ≡ self.old) }
+        ensures whole { HasWholeScores self.new }
     {
         self.ranking.insert(member.clone()?, score)?;
         self.ranking.remove(member.as_slice(), old);
@@ -152,6 +161,7 @@ impl Zset {
     pub fn remove(&mut self, member: &[u8]) -> Option<Whole>
         ensures old { result ≡ finite.get self.old member.now }
         ensures rest { self.new ≡ finite.remove self.old member.now }
+        ensures whole { HasWholeScores self.new }
     {
         let old = self.scores.remove(member);
         if let Some(score) = old {

@@ -25,8 +25,8 @@ mod trees;
 use lexing::{put_line, put_string, put_tokens};
 use lua_scope::Scopes;
 use parsing::{put_outcome, put_tree};
-use rs_base::{Bytes, NoMemory, Words};
-use rs_cases::{Calls, run_cases};
+use rs_base::{Bytes, NoMemory};
+use rs_cases::{Subject, run_cases};
 use std::alloc::Global;
 use std::process::ExitCode;
 use texts::{joined, repeated};
@@ -37,12 +37,9 @@ struct LuaCalls {
     scopes: Scopes,
 }
 
-impl Calls for LuaCalls {
-    fn answer(&mut self, words: &Words, out: &mut Bytes) -> Result<bool, NoMemory> {
-        let Some((name, words)) = words.as_slice().split_first() else {
-            return Ok(false);
-        };
-        let Ok(name) = str::from_utf8(name.as_slice()) else {
+impl Subject for LuaCalls {
+    fn answer(&mut self, name: &[u8], words: &[Bytes], out: &mut Bytes) -> Result<bool, NoMemory> {
+        let Ok(name) = str::from_utf8(name) else {
             return Ok(false);
         };
         if name == "parse_joined" {

@@ -1,7 +1,9 @@
 -- Statuses, and the words of a command line.
 use Rattle.std.proofs.Common.{◌≡◌, ℕ, ◌<◌, List, [], ◌∷◌, length, get_or, refl, arith}
 use Rattle.rs_outside.specs.declared.status.Status.{Status}
-use Rattle.rs_outside.specs.declared.status.Status.TheVariants.{Done, Usage, BadInput, BadLog, SourceFault, SinkFault, LogFault, WireFault, TurnsSpent, NoMemory, InputTooLong}
+use Rattle.rs_outside.specs.declared.status.Status.TheVariants.{Done, Usage, BadInput, BadLog, SourceFault, SinkFault}
+use Rattle.rs_outside.specs.declared.status.Status.TheVariants.{LogFault, WireFault, TurnsSpent, NoMemory}
+use Rattle.rs_outside.specs.declared.status.Status.TheVariants.{InputTooLong}
 use Rattle.srv_loop.specs.Play.{IsPlayStatus}
 use Rattle.redscript.specs.Run.{IsRefusal}
 
@@ -19,7 +21,8 @@ refused_line (TurnsSpent turns) refusal played = absurd refusal
 refused_line NoMemory refusal played = absurd refusal
 refused_line (InputTooLong bytes) refusal played = absurd played
 
-pub two_words : (words : List (List ℕ)) (a b : List ℕ) → length words ≡ 2 → a ≡ get_or words 0 a → b ≡ get_or words 1 b → words ≡ a ∷ b ∷ []
+pub two_words : (words : List (List ℕ)) (a b : List ℕ) → length words ≡ 2 → a ≡ get_or words 0 a
+    → b ≡ get_or words 1 b → words ≡ a ∷ b ∷ []
 two_words [] a b len first second = absurd (omega arith)
 two_words (x ∷ []) a b len first second = absurd (omega arith)
 two_words (x ∷ y ∷ []) a b len first second = cc

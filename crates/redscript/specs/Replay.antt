@@ -4,7 +4,8 @@ use Rattle.std.specs.List.{flat_map}
 use Rattle.std.specs.FinMap as finite
 use Rattle.rs_outside.specs.Known.{items_then, known_then, NoneLeft}
 use Rattle.rs_outside.specs.declared.status.Status.{Status}
-use Rattle.rs_outside.specs.declared.status.Status.TheVariants.{Done, BadLog, SourceFault, SinkFault, InputTooLong, NoMemory}
+use Rattle.rs_outside.specs.declared.status.Status.TheVariants.{Done, BadLog, SourceFault, SinkFault, InputTooLong}
+use Rattle.rs_outside.specs.declared.status.Status.TheVariants.{NoMemory}
 use Rattle.fx_record.specs.declared.record.Record.{Record}
 use Rattle.ks_space.specs.Store.{Store}
 use Rattle.fx_record.specs.Records.{replay}
@@ -99,7 +100,8 @@ StopsFeed text _ = ⊥
 -- why the bytes that were read are not taken, which with the new ones are these
 abbrev pub StopsTake : List ℕ → Status → Type 0
 StopsTake text (BadLog place) = (kind : LogKind) × IsBadLog (up_to_limit text) place kind
-StopsTake text (InputTooLong bytes) = (bytes ≡ 1099511627776) × (1099511627776 < length text) × (HasBadPlace (up_to_limit text) → ⊥)
+StopsTake text (InputTooLong bytes) = (bytes ≡ 1099511627776) × (1099511627776 < length text)
+    × (HasBadPlace (up_to_limit text) → ⊥)
 StopsTake text NoMemory = Unit {0}
 StopsTake text _ = ⊥
 

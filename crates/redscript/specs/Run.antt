@@ -1,7 +1,8 @@
 -- What a run of the program does.
 use Rattle.std.specs.Prelude.{◌≡◌, ◌⊎◌, ℕ, List, Option}
 use Rattle.rs_outside.specs.declared.status.Status.{Status}
-use Rattle.rs_outside.specs.declared.status.Status.TheVariants.{Usage, BadInput, BadLog, SourceFault, WireFault, TurnsSpent, InputTooLong}
+use Rattle.rs_outside.specs.declared.status.Status.TheVariants.{Usage, BadInput, BadLog, SourceFault, WireFault}
+use Rattle.rs_outside.specs.declared.status.Status.TheVariants.{TurnsSpent, InputTooLong}
 use Rattle.rs_outside.specs.declared.turn.Turn.{Turn}
 use Rattle.srv_loop.specs.Session.{IsSession, IsBadLine}
 use Rattle.srv_loop.specs.Play.{Plays, StopsAnywhere}
@@ -12,7 +13,8 @@ pub use Rattle.redscript.specs.Replay.{FindsBadLog, PassesLogLimit, IsReplayStat
 pub use Rattle.redscript.specs.Forms.{IsPlay, IsReplay, HasNoForm}
 
 -- the input was read to its end and is a session, and that was played
-pub record PlaysToEnd (words : List (List ℕ)) (input input' : Option (List ℕ)) (names names' : Option (List (List ℕ))) (log log' out out' : Option (List ℕ)) : Type 0 where
+pub record PlaysToEnd (words : List (List ℕ)) (input input' : Option (List ℕ)) (names names' : Option (List (List ℕ)))
+    (log log' out out' : Option (List ℕ)) : Type 0 where
   pub name : List ℕ
   pub form : IsPlay words name
   pub text : List ℕ
@@ -49,10 +51,13 @@ IsRunStatus WireFault = ⊥
 IsRunStatus (TurnsSpent turns) = ⊥
 IsRunStatus _ = Unit {0}
 
--- Wherever a run ended: nothing was begun or taken; or the input was read to its end and its play stopped somewhere; or the
+-- Wherever a run ended: nothing was begun or taken; or the input was read to its end and its play stopped somewhere;
+-- or the
 -- input was read to its end and is a log, and the output took a prefix of what is written of it.
-abbrev pub StopsRun : List (List ℕ) → Option (List ℕ) → Option (List ℕ) → Option (List (List ℕ)) → Option (List (List ℕ)) → Option (List ℕ) → Option (List ℕ) → Option (List ℕ) → Option (List ℕ) → Type 0
+abbrev pub StopsRun : List (List ℕ) → Option (List ℕ) → Option (List ℕ) → Option (List (List ℕ))
+    → Option (List (List ℕ)) → Option (List ℕ) → Option (List ℕ) → Option (List ℕ) → Option (List ℕ) → Type 0
 StopsRun words input input' names names' log log' out out' =
     ((names' ≡ names) × (log' ≡ log) × (out' ≡ out))
-    ⊎ ((name : List ℕ) × IsPlay words name × (text : List ℕ) × HasReadAll input input' text × StopsAnywhere text name names names' log log' out out')
+    ⊎ ((name : List ℕ) × IsPlay words name × (text : List ℕ) × HasReadAll input input' text
+    × StopsAnywhere text name names names' log log' out out')
     ⊎ (IsReplay words × (names' ≡ names) × (log' ≡ log) × CutsReplay input input' out out')

@@ -17,7 +17,8 @@ pub const BUFFER_BYTES: usize = 65_536;
 /// Reads a source to its end, or past the limit.
 pub fn read_all<S: Source>(alloc: Global, input: &mut S) -> Result<Bytes, Status>
     ensures ok { IfOk result (HasReadAll (S.left input.old) (S.left input.new)) }
-    ensures stop { IfErr result (StopsReading (S.left input.old) (S.left input.new) (Rose (S.faults input.old) (S.faults input.new))) }
+    ensures stop { IfErr result (StopsReading (S.left input.old) (S.left input.new)
+        (Rose (S.faults input.old) (S.faults input.new))) }
     ensures later { S.faults input.old ≤ S.faults input.new }
 {
     let mut text = Bytes::new(alloc);

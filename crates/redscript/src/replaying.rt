@@ -1,4 +1,5 @@
-ghost use Rattle.std.specs.Prelude.{◌≡◌, ◌⊎◌, ◌+◌, ◌<◌, ◌≤◌, ◌++◌, ℕ, List, [], Option, Some, All, length, fold, IfOk, IfErr, OnOk};
+ghost use Rattle.std.specs.Prelude.{◌≡◌, ◌⊎◌, ◌+◌, ◌<◌, ◌≤◌, ◌++◌, ℕ, List, [], Option, Some, All, length, fold};
+ghost use Rattle.std.specs.Prelude.{IfOk, IfErr, OnOk};
 ghost use Rattle.rs_outside.specs.Faults.{Rose};
 ghost use Rattle.rs_outside.specs.Known.{known_then};
 ghost use Rattle.rs_outside.specs.declared.status.Status.{Status};
@@ -8,7 +9,9 @@ ghost use Rattle.fx_log.specs.Groups.{IsWithin};
 ghost use Rattle.fx_log.specs.Logs.{IsBadLog, HasBadPlace};
 ghost use Rattle.srv_loop.specs.Stops.{Stops, Never};
 ghost use Rattle.srv_loop.specs.Taking.{TookPrefix};
-ghost use Rattle.redscript.specs.Replay.{records_of, counts_line, log_ending, up_to_limit, ReadsLog, Replays, CutsReplay, Keeps, KeepsUpTo, StopsFeed, StopsTake, StopsLogReading, IsReplayStatus};
+ghost use Rattle.redscript.specs.Replay.{records_of, counts_line, log_ending, up_to_limit, ReadsLog, Replays};
+ghost use Rattle.redscript.specs.Replay.{CutsReplay, Keeps, KeepsUpTo, StopsFeed, StopsTake, StopsLogReading};
+ghost use Rattle.redscript.specs.Replay.{IsReplayStatus};
 ghost use Rattle.redscript.specs.Run.{IsRefusal};
 
 use crate::reading::{BUFFER_BYTES, zeros};
@@ -36,21 +39,30 @@ pub struct Replaying {
 /// Replays the log that `input` has to its end: writes to `out` how many groups it has, how many keys the store then,
 /// and the dump of the store. Nothing is written before the input was read to its end.
 pub fn replay<S: Source, O: Sink>(alloc: Global, input: &mut S, out: &mut O) -> Status
-    ensures done { result ≡ Status.Done → Replays (S.left input.old) (S.left input.new) (O.taken out.old) (O.taken out.new) }
-    ensures refused { IsRefusal result → StopsLogReading (S.left input.old) (S.left input.new) (Rose (S.faults input.old) (S.faults input.new)) result × (out.new ≡ out.old) }
+    ensures done { result ≡ Status.Done
+        → Replays (S.left input.old) (S.left input.new) (O.taken out.old) (O.taken out.new) }
+    ensures refused { IsRefusal result
+        → StopsLogReading (S.left input.old) (S.left input.new)
+        (Rose (S.faults input.old) (S.faults input.new)) result × (out.new ≡ out.old) }
     ensures sink_fault { result ≡ Status.SinkFault → Rose (O.faults out.old) (O.faults out.new) }
     ensures others { IsReplayStatus result }
 
     // What an input that is told gets: the first bad place up to the limit is found, the limit is kept, and a log is
     // replayed.
-    ensures finds_bad { (text : List ℕ) (place : ℕ) (kind : LogKind) → S.left input.old ≡ Some text → IsBadLog (up_to_limit text) place kind
+    ensures finds_bad { (text : List ℕ) (place : ℕ) (kind : LogKind) → S.left input.old ≡ Some text
+        → IsBadLog (up_to_limit text) place kind
         → (result ≡ Status.BadLog place) ⊎ (result ≡ Status.NoMemory) ⊎ Rose (S.faults input.old) (S.faults input.new) }
-    ensures keeps_limit { (text : List ℕ) → S.left input.old ≡ Some text → MAX_LOG_BYTES < length text → (HasBadPlace (up_to_limit text) → ⊥)
-        → (result ≡ Status.InputTooLong MAX_LOG_BYTES) ⊎ (result ≡ Status.NoMemory) ⊎ Rose (S.faults input.old) (S.faults input.new) }
-    ensures replays { (text : List ℕ) → S.left input.old ≡ Some text → length text ≤ MAX_LOG_BYTES → (HasBadPlace text → ⊥)
-        → (result ≡ Status.Done) ⊎ (result ≡ Status.NoMemory) ⊎ Rose (S.faults input.old) (S.faults input.new) ⊎ Rose (O.faults out.old) (O.faults out.new) }
+    ensures keeps_limit { (text : List ℕ) → S.left input.old ≡ Some text → MAX_LOG_BYTES < length text
+        → (HasBadPlace (up_to_limit text) → ⊥)
+        → (result ≡ Status.InputTooLong MAX_LOG_BYTES) ⊎ (result ≡ Status.NoMemory)
+        ⊎ Rose (S.faults input.old) (S.faults input.new) }
+    ensures replays { (text : List ℕ) → S.left input.old ≡ Some text → length text ≤ MAX_LOG_BYTES
+        → (HasBadPlace text → ⊥)
+        → (result ≡ Status.Done) ⊎ (result ≡ Status.NoMemory) ⊎ Rose (S.faults input.old) (S.faults input.new)
+        ⊎ Rose (O.faults out.old) (O.faults out.new) }
 
-    ensures anywhere { (O.taken out.new ≡ O.taken out.old) ⊎ CutsReplay (S.left input.old) (S.left input.new) (O.taken out.old) (O.taken out.new) }
+    ensures anywhere { (O.taken out.new ≡ O.taken out.old)
+        ⊎ CutsReplay (S.left input.old) (S.left input.new) (O.taken out.old) (O.taken out.new) }
     ensures source_later { S.faults input.old ≤ S.faults input.new }
     ensures sink_later { O.faults out.old ≤ O.faults out.new }
 {
@@ -68,8 +80,10 @@ pub fn replay<S: Source, O: Sink>(alloc: Global, input: &mut S, out: &mut O) -> 
 
 // Reads a log to its end, to its bad place or past the limit, and carries out its groups as they become whole.
 fn read_log<S: Source>(alloc: Global, input: &mut S) -> Result<Replaying, Status>
-    ensures ok { IfOk result (λ replaying. (text : List ℕ) × ReadsLog (S.left input.old) (S.left input.new) text × Keeps replaying text) }
-    ensures stop { IfErr result (StopsLogReading (S.left input.old) (S.left input.new) (Rose (S.faults input.old) (S.faults input.new))) }
+    ensures ok { IfOk result (λ replaying. (text : List ℕ) × ReadsLog (S.left input.old) (S.left input.new) text
+        × Keeps replaying text) }
+    ensures stop { IfErr result (StopsLogReading (S.left input.old) (S.left input.new)
+        (Rose (S.faults input.old) (S.faults input.new))) }
     ensures later { S.faults input.old ≤ S.faults input.new }
 {
     let mut replaying = Replaying::new(alloc);
@@ -88,7 +102,8 @@ fn read_log<S: Source>(alloc: Global, input: &mut S) -> Result<Replaying, Status
 
 // Writes how many groups a log has, and what they lead to.
 fn write_replayed<O: Sink>(alloc: Global, replaying: &Replaying, out: &mut O) -> Result<(), Status>
-    ensures ok { OnOk result (O.taken out.new ≡ known_then (O.taken out.old) (log_ending replaying.now.groups replaying.now.space)) }
+    ensures ok { OnOk result (O.taken out.new
+        ≡ known_then (O.taken out.old) (log_ending replaying.now.groups replaying.now.space)) }
     ensures cut { TookPrefix (O.taken out.old) (O.taken out.new) (log_ending replaying.now.groups replaying.now.space) }
     ensures stop { IfErr result (Stops Never ⊥ (Rose (O.faults out.old) (O.faults out.new)) ⊥) }
     ensures later { O.faults out.old ≤ O.faults out.new }

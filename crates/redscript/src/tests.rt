@@ -35,7 +35,8 @@ type Failing = (Option<u64>, Option<u64>, Option<u64>);
 
 const SURE: Failing = (None, None, None);
 
-// What a run leaves: its status, what the output and the log took, and whether the log was begun, under the name `x.log`.
+// What a run leaves: its status, what the output and the log took, and whether the log was begun, under the name
+// `x.log`.
 type Left = (Status, &'static [u8], &'static [u8], bool);
 
 fn calls(alloc: Global, failing: Option<u64>) -> Result<Calls, NoMemory> {

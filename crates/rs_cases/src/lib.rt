@@ -5,10 +5,12 @@
 //! line stands between cases that have nothing in common.
 #![tactic(auto)]
 
-mod calls;
+mod judging;
 mod run;
+mod subject;
 mod verdict;
 
-pub use calls::{Calls, judge};
+pub use judging::judge;
 pub use run::run_cases;
+pub use subject::Subject;
 pub use verdict::Verdict;

@@ -1,23 +1,34 @@
-use crate::{Calls, judge};
-use rs_base::Bytes;
+use crate::{Subject, judge};
+use rs_base::{Bytes, NoMemory};
 use std::io::{self, Write};
 use std::process::ExitCode;
 
 /// Judges the cases of standard input, and writes what `judge` says of them and how many there were. The status is a
-/// failure only where input or output fails, or memory runs out: what was written tells the rest.
-pub fn run_cases<C: Calls>(rt: &HostRuntime, calls: &mut C) -> ExitCode {
+/// failure only where input or output fails, or memory runs out, which standard error tells: what was written tells the
+/// rest.
+pub fn run_cases<S: Subject>(rt: &HostRuntime, subject: &mut S) -> ExitCode {
     let Ok(text) = io::read_to_string(rt.alloc(), rt.reader()) else {
-        return ExitCode::FAILURE;
+        return failure(rt, "the cases cannot be read");
     };
-    let mut out = Bytes::new(rt.alloc());
-    let Ok(verdict) = judge(rt.alloc(), text.as_str(), calls, &mut out) else {
-        return ExitCode::FAILURE;
+    let Ok(told) = told(rt, text.as_str(), subject) else {
+        return failure(rt, "out of memory");
     };
-    if verdict.put(&mut out).is_err() {
-        return ExitCode::FAILURE;
-    }
-    match io::writer(rt).write_all(out.as_slice()) {
+    match io::writer(rt).write_all(told.as_slice()) {
         Ok(()) => ExitCode::SUCCESS,
-        Err(_) => ExitCode::FAILURE,
+        Err(_) => failure(rt, "the verdict cannot be written"),
     }
+}
+
+// What is wrong, and the verdict.
+fn told<S: Subject>(rt: &HostRuntime, text: &str, subject: &mut S) -> Result<Bytes, NoMemory> {
+    let mut out = Bytes::new(rt.alloc());
+    let verdict = judge(rt.alloc(), text, subject, &mut out)?;
+    verdict.put(&mut out)?;
+    Ok(out)
+}
+
+// Nothing more can be done where standard error fails as well.
+fn failure(rt: &HostRuntime, why: &str) -> ExitCode {
+    let _ = eprintln!(rt; "{why}");
+    ExitCode::FAILURE
 }

@@ -9,8 +9,8 @@ use rs_outside::{Status, SureLog, SureSink};
 use srv_loop::play;
 use std::alloc::Global;
 
-/// Plays the sessions of `text`, of which each stands behind a line that begins with `#`, and adds what they write to `out`,
-/// each behind that line.
+/// Plays the sessions of `text`, of which each stands behind a line that begins with `#`, and adds what they write to
+/// `out`, each behind that line.
 ///
 /// # Errors
 ///
@@ -42,7 +42,8 @@ fn put_line(line: &str, out: &mut Bytes) -> Result<(), Status>
     Ok(())
 }
 
-// Plays a session on a new server. Adds its transcript and the frames of its log, or else which line is none of a session.
+// Plays a session on a new server. Adds its transcript and the frames of its log, or else which line is none of a
+// session.
 fn play_case(alloc: Global, session: &Bytes, out: &mut Bytes) -> Result<(), Status>
     ensures played { (turns : List Turn) → IsSession session.now turns → OnOk result (AddsPlay turns out.old out.new) }
     ensures refused { (line : ℕ) → IsBadLine session.now line → OnOk result (out.new ≡ out.old ++ bad_line line) }

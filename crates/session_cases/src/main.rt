@@ -1,8 +1,8 @@
-//! Plays the recorded sessions of standard input, each on a server of its own, and writes what each one sent, what was left
-//! in the store, and what was logged.
+//! Plays the recorded sessions of standard input, each on a server of its own, and writes what each one sent, what
+//! was left in the store, and what was logged.
 //!
-//! A line that begins with `#` stands before each session, and is written before the transcript. Behind the transcript stands
-//! a line `log WORDS` for each frame of the log.
+//! A line that begins with `#` stands before each session, and is written before the transcript. Behind the
+//! transcript stands a line `log WORDS` for each frame of the log.
 #![tactic(auto)]
 
 mod cases;

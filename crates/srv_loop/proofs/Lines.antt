@@ -1,5 +1,6 @@
 -- The parts of a session line.
-use Rattle.std.proofs.Common.{◌≡◌, ◌≢◌, ℕ, ◌/◌, ◌%◌, Bool, true, false, cond, ◌==◌, List, [], ◌∷◌, ◌++◌, refl, sym, ap, ◌∙◌, arith, append_assoc, codes, decimal}
+use Rattle.std.proofs.Common.{◌≡◌, ◌≢◌, ℕ, ◌/◌, ◌%◌, Bool, true, false, cond, ◌==◌, List, [], ◌∷◌, ◌++◌, refl, sym}
+use Rattle.std.proofs.Common.{ap, ◌∙◌, arith, append_assoc, codes, decimal}
 use Rattle.std.specs.List.{AllByRecursion, flat_map}
 use Rattle.std.proofs.lemmas.Bool.Decides.{nat_tests}
 use Rattle.std.proofs.lemmas.Fmt.{decimal_digit}
@@ -38,7 +39,8 @@ no_lf-append (x ∷ xs) ys first second = (first.0, no_lf-append xs ys first.1 s
 
 no_lf_bytes : (bytes : List ℕ) → NoLf (flat_map spelling_of_byte bytes)
 no_lf_bytes [] = tt
-no_lf_bytes (b ∷ bytes) = no_lf-append (spelling_of_byte b) (flat_map spelling_of_byte bytes) (no_lf_byte b) (no_lf_bytes bytes)
+no_lf_bytes (b ∷ bytes) = no_lf-append (spelling_of_byte b) (flat_map spelling_of_byte bytes) (no_lf_byte b)
+    (no_lf_bytes bytes)
 
 -- a spelling stands on one line
 pub no_lf_spelling : (bytes : List ℕ) → NoLf (spelling bytes)
@@ -49,16 +51,24 @@ regroup_line : (head what more : List ℕ) → ((head ++ what) ++ 10 ∷ []) ++ 
 regroup_line head what more = simp append_assoc
 
 -- a line is its head, what the client did, and LF
-pub line_is : (turn : Turn) (more : List ℕ) → turn_line turn ++ more ≡ head_text turn.clock turn.word turn.client ++ (what_text turn.what ++ 10 ∷ more)
+pub line_is : (turn : Turn) (more : List ℕ)
+    → turn_line turn ++ more ≡ head_text turn.clock turn.word turn.client ++ (what_text turn.what ++ 10 ∷ more)
 line_is turn more = regroup_line (head_text turn.clock turn.word turn.client) (what_text turn.what) more
 
-regroup_head : (clock word client more : List ℕ) → (((clock ++ 32 ∷ word) ++ 32 ∷ client) ++ 32 ∷ []) ++ more ≡ clock ++ (32 ∷ (word ++ (32 ∷ (client ++ (32 ∷ more)))))
+regroup_head : (clock word client more : List ℕ)
+    → (((clock ++ 32 ∷ word) ++ 32 ∷ client) ++ 32 ∷ []) ++ more ≡ clock
+    ++ (32 ∷ (word ++ (32 ∷ (client ++ (32 ∷ more)))))
 regroup_head clock word client more = simp append_assoc
 
 -- a head is its numbers, each with a space behind it
-pub head_is : (clock word client : ℕ) (more : List ℕ) → head_text clock word client ++ more ≡ decimal clock ++ (32 ∷ (decimal word ++ (32 ∷ (decimal client ++ (32 ∷ more)))))
+pub head_is : (clock word client : ℕ) (more : List ℕ)
+    → head_text clock word client ++ more ≡ decimal clock
+    ++ (32 ∷ (decimal word ++ (32 ∷ (decimal client ++ (32 ∷ more)))))
 head_is clock word client more = regroup_head (decimal clock) (decimal word) (decimal client) more
 
-pub same_turn : (head : Head) (what : What) (turn : Turn) → head ≡ record { clock = turn.clock; word = turn.word; client = turn.client } → what ≡ turn.what
+pub same_turn : (head : Head) (what : What) (turn : Turn)
+    → head ≡ record { clock = turn.clock; word = turn.word; client = turn.client } → what ≡ turn.what
     → ◌≡◌ {A = Turn} (record { clock = head.clock; word = head.word; client = head.client; what = what }) turn
-same_turn head what turn head_is what_is = ap (λ h. record { clock = h.clock; word = h.word; client = h.client; what = what }) head_is ∙ ap (λ w. record turn { what = w }) what_is
+same_turn head what turn head_is what_is =
+    ap (λ h. record { clock = h.clock; word = h.word; client = h.client; what = what }) head_is
+    ∙ ap (λ w. record turn { what = w }) what_is

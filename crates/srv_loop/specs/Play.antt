@@ -11,9 +11,11 @@ use Rattle.srv_loop.specs.Replaying.{ReplaysTo}
 use Rattle.srv_loop.specs.Taking.{TookPrefix}
 use Rattle.srv_loop.specs.Transcript.{row_lines, transcript}
 
--- the log was begun under this name and took the log bytes of these turns, which replayed give the store that they leave,
+-- the log was begun under this name and took the log bytes of these turns, which replayed give the store that they
+-- leave,
 -- and the output took their transcript
-pub record Plays (name : List ℕ) (turns : List Turn) (names names' : Option (List (List ℕ))) (log log' out out' : Option (List ℕ)) : Type 0 where
+pub record Plays (name : List ℕ) (turns : List Turn) (names names' : Option (List (List ℕ)))
+    (log log' out out' : Option (List ℕ)) : Type 0 where
   pub begun : names' ≡ known_then names (name ∷ [])
   pub logged : log' ≡ known_then log (log_bytes turns)
   pub replays : ReplaysTo (log_bytes turns) (state turns).store
@@ -40,10 +42,12 @@ pub record CutsPlay (turns : List Turn) (log log' out out' : Option (List ℕ)) 
 
 -- Wherever a play of this text ended: nothing was begun or taken; or the text is a session, the log was begun, and the
 -- play was cut.
-abbrev pub StopsAnywhere : List ℕ → List ℕ → Option (List (List ℕ)) → Option (List (List ℕ)) → Option (List ℕ) → Option (List ℕ) → Option (List ℕ) → Option (List ℕ) → Type 0
+abbrev pub StopsAnywhere : List ℕ → List ℕ → Option (List (List ℕ)) → Option (List (List ℕ)) → Option (List ℕ)
+    → Option (List ℕ) → Option (List ℕ) → Option (List ℕ) → Type 0
 StopsAnywhere text name names names' log log' out out' =
     ((names' ≡ names) × (log' ≡ log) × (out' ≡ out))
-    ⊎ ((names' ≡ known_then names (name ∷ [])) × ((turns : List Turn) × IsSession text turns × CutsPlay turns log log' out out'))
+    ⊎ ((names' ≡ known_then names (name ∷ []))
+    × ((turns : List Turn) × IsSession text turns × CutsPlay turns log log' out out'))
 
 -- the statuses that a play ends with
 abbrev pub IsPlayStatus : Status → Type 0

@@ -13,8 +13,10 @@ use Rattle.srv_loop.specs.Replaying.{ReplaysTo}
 use Rattle.srv_loop.specs.Taking.{CutsTurn}
 
 -- These turns came and were taken one by one: the server is in the state of the reference machine after them, the log
--- took their log bytes, and their rows were sent. Where it began as a new server does, these log bytes replayed give its store.
-pub record Serves (turns : List Turn) (server server' : State) (coming coming' : Option (List Turn)) (log log' : Option (List ℕ)) (sent sent' : Option (List OutRow)) : Type 0 where
+-- took their log bytes, and their rows were sent. Where it began as a new server does, these log bytes replayed give
+-- its store.
+pub record Serves (turns : List Turn) (server server' : State) (coming coming' : Option (List Turn))
+    (log log' : Option (List ℕ)) (sent sent' : Option (List OutRow)) : Type 0 where
   pub came : coming ≡ items_then turns coming'
   pub server_is : server' ≡ (run_from server turns).state
   pub logged : log' ≡ known_then log (logged_in (run_from server turns))
@@ -27,18 +29,23 @@ with_last turns None = turns
 with_last turns (Some turn) = turns ++ turn ∷ []
 
 -- nothing more was taken, or the last turn ended anywhere
-abbrev pub CutsLast : State → Option Turn → Option (List ℕ) → Option (List ℕ) → Option (List OutRow) → Option (List OutRow) → Type 0
+abbrev pub CutsLast : State → Option Turn → Option (List ℕ) → Option (List ℕ) → Option (List OutRow)
+    → Option (List OutRow) → Type 0
 CutsLast server None log log' sent sent' = (log' ≡ log) × (sent' ≡ sent)
-CutsLast server (Some turn) log log' sent sent' = CutsTurn (logged_in (step server turn)) (step server turn).rows log log' sent sent'
+CutsLast server (Some turn) log log' sent sent' =
+    CutsTurn (logged_in (step server turn)) (step server turn).rows log log' sent sent'
 
--- Serving that may take so many turns ended anywhere: these turns were taken whole, and then one turn more came and ended
+-- Serving that may take so many turns ended anywhere: these turns were taken whole, and then one turn more came and
+-- ended
 -- anywhere, or none did.
-pub record CutsServe (most : ℕ) (server : State) (coming coming' : Option (List Turn)) (log log' : Option (List ℕ)) (sent sent' : Option (List OutRow)) : Type 0 where
+pub record CutsServe (most : ℕ) (server : State) (coming coming' : Option (List Turn)) (log log' : Option (List ℕ))
+    (sent sent' : Option (List OutRow)) : Type 0 where
   pub turns : List Turn
   pub last : Option Turn
   pub within : length (with_last turns last) ≤ most
   pub came : coming ≡ items_then (with_last turns last) coming'
-  pub cut : CutsLast (run_from server turns).state last (known_then log (logged_in (run_from server turns))) log' (known_then sent (run_from server turns).rows) sent'
+  pub cut : CutsLast (run_from server turns).state last (known_then log (logged_in (run_from server turns))) log'
+      (known_then sent (run_from server turns).rows) sent'
 
 -- What a wire gives for the next turn: the first turn to come, or nothing exactly where none is left.
 abbrev pub TakesNext : Option (List Turn) → Option (List Turn) → Option Turn → Type 0

@@ -26,4 +26,5 @@ ending turns logged store = codes "end turns=" ++ decimal turns ++ codes " keys=
 
 -- The count of log bytes stands still at the last value of a `u64`.
 abbrev pub transcript : List Turn → List ℕ
-transcript turns = row_lines (outs turns) ++ ending (length turns) (within_u64 (length (log_bytes turns))) (state turns).store
+transcript turns = row_lines (outs turns)
+    ++ ending (length turns) (within_u64 (length (log_bytes turns))) (state turns).store

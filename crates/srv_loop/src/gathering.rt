@@ -67,11 +67,14 @@ impl Gathered {
         out: &mut O,
         log: &mut L,
     ) -> Result<(), Status>
-        ensures ok { OnOk result (Flushes self.old self.new (L.taken log.old) (L.taken log.new) (O.taken out.old) (O.taken out.new)
+        ensures ok { OnOk result (Flushes self.old self.new (L.taken log.old) (L.taken log.new) (O.taken out.old)
+            (O.taken out.new)
             ⊎ Keeps self.old self.new (L.taken log.old) (L.taken log.new) (O.taken out.old) (O.taken out.new)) }
         ensures few { OnOk result (length self.new.log + length self.new.lines < BATCH_BYTES) }
-        ensures cut { CutsTurn self.old.log self.old.lines (L.taken log.old) (L.taken log.new) (O.taken out.old) (O.taken out.new) }
-        ensures stop { IfErr result (Stops Never (Rose (L.faults log.old) (L.faults log.new)) (Rose (O.faults out.old) (O.faults out.new)) ⊥) }
+        ensures cut { CutsTurn self.old.log self.old.lines (L.taken log.old) (L.taken log.new) (O.taken out.old)
+            (O.taken out.new) }
+        ensures stop { IfErr result (Stops Never (Rose (L.faults log.old) (L.faults log.new))
+            (Rose (O.faults out.old) (O.faults out.new)) ⊥) }
         ensures names { L.begun log.new ≡ L.begun log.old }
         ensures log_later { L.faults log.old ≤ L.faults log.new }
         ensures out_later { O.faults out.old ≤ O.faults out.new }
@@ -95,9 +98,12 @@ impl Gathered {
         out: &mut O,
         log: &mut L,
     ) -> Result<(), Status>
-        ensures ok { OnOk result (Flushes self.old self.new (L.taken log.old) (L.taken log.new) (O.taken out.old) (O.taken out.new)) }
-        ensures cut { CutsTurn self.old.log self.old.lines (L.taken log.old) (L.taken log.new) (O.taken out.old) (O.taken out.new) }
-        ensures stop { IfErr result (Stops Never (Rose (L.faults log.old) (L.faults log.new)) (Rose (O.faults out.old) (O.faults out.new)) ⊥) }
+        ensures ok { OnOk result (Flushes self.old self.new (L.taken log.old) (L.taken log.new) (O.taken out.old)
+            (O.taken out.new)) }
+        ensures cut { CutsTurn self.old.log self.old.lines (L.taken log.old) (L.taken log.new) (O.taken out.old)
+            (O.taken out.new) }
+        ensures stop { IfErr result (Stops Never (Rose (L.faults log.old) (L.faults log.new))
+            (Rose (O.faults out.old) (O.faults out.new)) ⊥) }
         ensures names { L.begun log.new ≡ L.begun log.old }
         ensures log_later { L.faults log.old ≤ L.faults log.new }
         ensures out_later { O.faults out.old ≤ O.faults out.new }

@@ -1,5 +1,5 @@
-//! Serving and playing: turns that come over a wire or from a recorded session are taken by the machine, what they log goes
-//! to the log, and then what they send goes to the wire or the transcript.
+//! Serving and playing: turns that come over a wire or from a recorded session are taken by the machine, what they
+//! log goes to the log, and then what they send goes to the wire or the transcript.
 #![tactic(auto)]
 
 mod gathering;

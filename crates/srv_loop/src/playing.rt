@@ -35,21 +35,27 @@ pub fn play<O: Sink, L: Log>(
     log: &mut L,
 ) -> Status
     ensures done { result ≡ Status.Done → (turns : List Turn) × IsSession session.now turns
-        × Plays name.now turns (L.begun log.old) (L.begun log.new) (L.taken log.old) (L.taken log.new) (O.taken out.old) (O.taken out.new) }
+        × Plays name.now turns (L.begun log.old) (L.begun log.new) (L.taken log.old) (L.taken log.new)
+        (O.taken out.old) (O.taken out.new) }
     ensures done_only { (turns : List Turn) → IsSession session.now turns → result ≡ Status.Done
-        → Plays name.now turns (L.begun log.old) (L.begun log.new) (L.taken log.old) (L.taken log.new) (O.taken out.old) (O.taken out.new) }
+        → Plays name.now turns (L.begun log.old) (L.begun log.new) (L.taken log.old) (L.taken log.new)
+        (O.taken out.old) (O.taken out.new) }
 
     // A bad line is found, and no session is found bad.
-    ensures bad { (line : ℕ) → result ≡ Status.BadInput line → IsBadLine session.now line × (log.new ≡ log.old) × (out.new ≡ out.old) }
-    ensures bad_only { (line : ℕ) → IsBadLine session.now line → (result ≡ Status.BadInput line) ⊎ (result ≡ Status.NoMemory) }
-    ensures good_only { (turns : List Turn) (line : ℕ) → IsSession session.now turns → result ≡ Status.BadInput line → ⊥ }
+    ensures bad { (line : ℕ) → result ≡ Status.BadInput line → IsBadLine session.now line × (log.new ≡ log.old)
+        × (out.new ≡ out.old) }
+    ensures bad_only { (line : ℕ) → IsBadLine session.now line → (result ≡ Status.BadInput line)
+        ⊎ (result ≡ Status.NoMemory) }
+    ensures good_only { (turns : List Turn) (line : ℕ) → IsSession session.now turns → result ≡ Status.BadInput line
+        → ⊥ }
 
     // A fault is answered only where that object's count rose.
     ensures log_fault { result ≡ Status.LogFault → Rose (L.faults log.old) (L.faults log.new) }
     ensures sink_fault { result ≡ Status.SinkFault → Rose (O.faults out.old) (O.faults out.new) }
     ensures others { IsPlayStatus result }
 
-    ensures anywhere { StopsAnywhere session.now name.now (L.begun log.old) (L.begun log.new) (L.taken log.old) (L.taken log.new) (O.taken out.old) (O.taken out.new) }
+    ensures anywhere { StopsAnywhere session.now name.now (L.begun log.old) (L.begun log.new) (L.taken log.old)
+        (L.taken log.new) (O.taken out.old) (O.taken out.new) }
     ensures log_later { L.faults log.old ≤ L.faults log.new }
     ensures out_later { O.faults out.old ≤ O.faults out.new }
 {
@@ -67,14 +73,19 @@ fn try_play<O: Sink, L: Log>(
     log: &mut L,
 ) -> Result<(), Status>
     ensures ok { OnOk result ((turns : List Turn) × IsSession session.now turns
-        × Plays name.now turns (L.begun log.old) (L.begun log.new) (L.taken log.old) (L.taken log.new) (O.taken out.old) (O.taken out.new)) }
+        × Plays name.now turns (L.begun log.old) (L.begun log.new) (L.taken log.old) (L.taken log.new)
+        (O.taken out.old) (O.taken out.new)) }
     ensures ok_only { (turns : List Turn) → IsSession session.now turns → OnOk result
-        (Plays name.now turns (L.begun log.old) (L.begun log.new) (L.taken log.old) (L.taken log.new) (O.taken out.old) (O.taken out.new)) }
+        (Plays name.now turns (L.begun log.old) (L.begun log.new) (L.taken log.old) (L.taken log.new)
+        (O.taken out.old) (O.taken out.new)) }
     ensures stop { IfErr result (Stops (λ line. IsBadLine session.now line × (log.new ≡ log.old) × (out.new ≡ out.old))
         (Rose (L.faults log.old) (L.faults log.new)) (Rose (O.faults out.old) (O.faults out.new)) ⊥) }
-    ensures bad_only { (line : ℕ) → IsBadLine session.now line → IsErrAnd result (λ status. (status ≡ Status.BadInput line) ⊎ (status ≡ Status.NoMemory)) }
-    ensures good_only { (turns : List Turn) (line : ℕ) → IsSession session.now turns → IfErr result (λ status. status ≡ Status.BadInput line → ⊥) }
-    ensures anywhere { StopsAnywhere session.now name.now (L.begun log.old) (L.begun log.new) (L.taken log.old) (L.taken log.new) (O.taken out.old) (O.taken out.new) }
+    ensures bad_only { (line : ℕ) → IsBadLine session.now line
+        → IsErrAnd result (λ status. (status ≡ Status.BadInput line) ⊎ (status ≡ Status.NoMemory)) }
+    ensures good_only { (turns : List Turn) (line : ℕ) → IsSession session.now turns
+        → IfErr result (λ status. status ≡ Status.BadInput line → ⊥) }
+    ensures anywhere { StopsAnywhere session.now name.now (L.begun log.old) (L.begun log.new) (L.taken log.old)
+        (L.taken log.new) (O.taken out.old) (O.taken out.new) }
     ensures log_later { L.faults log.old ≤ L.faults log.new }
     ensures out_later { O.faults out.old ≤ O.faults out.new }
 {
@@ -91,8 +102,10 @@ fn play_turns<O: Sink, L: Log>(
     out: &mut O,
     log: &mut L,
 ) -> Result<(), Status>
-    ensures ok { OnOk result ((L.taken log.new ≡ known_then (L.taken log.old) (log_bytes turns)) × (O.taken out.new ≡ known_then (O.taken out.old) (transcript turns))) }
-    ensures stop { IfErr result (Stops Never (Rose (L.faults log.old) (L.faults log.new)) (Rose (O.faults out.old) (O.faults out.new)) ⊥) }
+    ensures ok { OnOk result ((L.taken log.new ≡ known_then (L.taken log.old) (log_bytes turns))
+        × (O.taken out.new ≡ known_then (O.taken out.old) (transcript turns))) }
+    ensures stop { IfErr result (Stops Never (Rose (L.faults log.old) (L.faults log.new))
+        (Rose (O.faults out.old) (O.faults out.new)) ⊥) }
     ensures names { L.begun log.new ≡ L.begun log.old }
     ensures cut { CutsPlay turns (L.taken log.old) (L.taken log.new) (O.taken out.old) (O.taken out.new) }
     ensures log_later { L.faults log.old ≤ L.faults log.new }

@@ -1,4 +1,5 @@
-ghost use Rattle.std.specs.Prelude.{◌≡◌, ◌⊎◌, ℕ, ◌<◌, ◌≤◌, ◌∷◌, [], ◌++◌, List, Some, length, IfOk, OnOk, OnErr, IfErr, IsErrOf, MatchResult};
+ghost use Rattle.std.specs.Prelude.{◌≡◌, ◌⊎◌, ℕ, ◌<◌, ◌≤◌, ◌∷◌, [], ◌++◌, List, Some, length, IfOk, OnOk, OnErr};
+ghost use Rattle.std.specs.Prelude.{IfErr, IsErrOf, MatchResult};
 ghost use Rattle.rs_outside.specs.declared.status.Status.{Status};
 ghost use Rattle.rs_outside.specs.declared.turn.Turn.{Turn};
 ghost use Rattle.rs_outside.specs.Faults.{Rose};
@@ -21,10 +22,10 @@ use std::alloc::Global;
 /// Serves the clients of a wire: takes its turns one by one, until it gives none or `turns` were taken. Each turn's log
 /// bytes are written before its rows are sent.
 ///
-/// The status is `Done` where the wire gave no more turn, `TurnsSpent` where that many were taken, after which the wire is
-/// not asked again; `LogFault` or `WireFault` where that object failed; or `NoMemory`. After a fault or `NoMemory` some turns
-/// were taken whole, and of one more a prefix of its log bytes and a prefix of its rows went out, these only where its log
-/// bytes are whole. The server is then only good for dropping.
+/// The status is `Done` where the wire gave no more turn, `TurnsSpent` where that many were taken, after which the
+/// wire is not asked again; `LogFault` or `WireFault` where that object failed; or `NoMemory`. After a fault or
+/// `NoMemory` some turns were taken whole, and of one more a prefix of its log bytes and a prefix of its rows went
+/// out, these only where its log bytes are whole. The server is then only good for dropping.
 pub fn serve<W: Wire, L: Log>(
     alloc: Global,
     server: &mut Server,
@@ -34,20 +35,25 @@ pub fn serve<W: Wire, L: Log>(
 ) -> Status
     // All turns that came were taken: fewer than the most that may be, and none is left.
     ensures done { result ≡ Status.Done → (taken : List Turn) × (length taken < turns) × NoneLeft (W.coming wire.new)
-        × Serves taken server.old server.new (W.coming wire.old) (W.coming wire.new) (L.taken log.old) (L.taken log.new) (W.sent wire.old) (W.sent wire.new) }
+        × Serves taken server.old server.new (W.coming wire.old) (W.coming wire.new) (L.taken log.old)
+        (L.taken log.new) (W.sent wire.old) (W.sent wire.new) }
     // Just so many turns were taken.
-    ensures spent { (spent : ℕ) → result ≡ Status.TurnsSpent spent → (spent ≡ turns) × ((taken : List Turn) × (length taken ≡ turns)
-        × Serves taken server.old server.new (W.coming wire.old) (W.coming wire.new) (L.taken log.old) (L.taken log.new) (W.sent wire.old) (W.sent wire.new)) }
+    ensures spent { (spent : ℕ) → result ≡ Status.TurnsSpent spent → (spent ≡ turns)
+        × ((taken : List Turn) × (length taken ≡ turns)
+        × Serves taken server.old server.new (W.coming wire.old) (W.coming wire.new) (L.taken log.old)
+        (L.taken log.new) (W.sent wire.old) (W.sent wire.new)) }
 
     // A fault is answered only where that object's count rose, and that of the wire leaves no turn in part.
     ensures log_fault { result ≡ Status.LogFault → Rose (L.faults log.old) (L.faults log.new) }
     ensures wire_fault { result ≡ Status.WireFault → Rose (W.faults wire.old) (W.faults wire.new) }
     ensures wire_between { result ≡ Status.WireFault → (taken : List Turn) × (length taken < turns)
-        × Serves taken server.old server.new (W.coming wire.old) (W.coming wire.new) (L.taken log.old) (L.taken log.new) (W.sent wire.old) (W.sent wire.new) }
+        × Serves taken server.old server.new (W.coming wire.old) (W.coming wire.new) (L.taken log.old)
+        (L.taken log.new) (W.sent wire.old) (W.sent wire.new) }
     ensures others { IsServeStatus result }
 
     // Wherever it ended.
-    ensures anywhere { CutsServe turns server.old (W.coming wire.old) (W.coming wire.new) (L.taken log.old) (L.taken log.new) (W.sent wire.old) (W.sent wire.new) }
+    ensures anywhere { CutsServe turns server.old (W.coming wire.old) (W.coming wire.new) (L.taken log.old)
+        (L.taken log.new) (W.sent wire.old) (W.sent wire.new) }
     ensures starts { W.started wire.new ≡ W.started wire.old }
     ensures names { L.begun log.new ≡ L.begun log.old }
     ensures wire_later { W.faults wire.old ≤ W.faults wire.new }
@@ -55,9 +61,11 @@ pub fn serve<W: Wire, L: Log>(
 
     // What a wire that tells its turns gets.
     ensures serves_all { (coming : List Turn) → W.coming wire.old ≡ Some coming → length coming < turns
-        → (result ≡ Status.Done) ⊎ (result ≡ Status.NoMemory) ⊎ Rose (W.faults wire.old) (W.faults wire.new) ⊎ Rose (L.faults log.old) (L.faults log.new) }
+        → (result ≡ Status.Done) ⊎ (result ≡ Status.NoMemory) ⊎ Rose (W.faults wire.old) (W.faults wire.new)
+        ⊎ Rose (L.faults log.old) (L.faults log.new) }
     ensures spends_all { (coming : List Turn) → W.coming wire.old ≡ Some coming → turns ≤ length coming
-        → (result ≡ Status.TurnsSpent turns) ⊎ (result ≡ Status.NoMemory) ⊎ Rose (W.faults wire.old) (W.faults wire.new) ⊎ Rose (L.faults log.old) (L.faults log.new) }
+        → (result ≡ Status.TurnsSpent turns) ⊎ (result ≡ Status.NoMemory)
+        ⊎ Rose (W.faults wire.old) (W.faults wire.new) ⊎ Rose (L.faults log.old) (L.faults log.new) }
 {
     match serve_turns(alloc, server, wire, log, turns) {
         Ok(Served::ToEnd) => Status::Done,
@@ -83,11 +91,15 @@ fn serve_turns<W: Wire, L: Log>(
     turns: u64,
 ) -> Result<Served, Status>
     ensures ok { IfOk result (λ served. (taken : List Turn) × EndsServed served taken turns (W.coming wire.new)
-        × Serves taken server.old server.new (W.coming wire.old) (W.coming wire.new) (L.taken log.old) (L.taken log.new) (W.sent wire.old) (W.sent wire.new)) }
-    ensures stop { IfErr result (Stops Never (Rose (L.faults log.old) (L.faults log.new)) ⊥ (Rose (W.faults wire.old) (W.faults wire.new))) }
+        × Serves taken server.old server.new (W.coming wire.old) (W.coming wire.new) (L.taken log.old)
+        (L.taken log.new) (W.sent wire.old) (W.sent wire.new)) }
+    ensures stop { IfErr result (Stops Never (Rose (L.faults log.old) (L.faults log.new)) ⊥
+        (Rose (W.faults wire.old) (W.faults wire.new))) }
     ensures between { IsErrOf result Status.WireFault → (taken : List Turn) × (length taken < turns)
-        × Serves taken server.old server.new (W.coming wire.old) (W.coming wire.new) (L.taken log.old) (L.taken log.new) (W.sent wire.old) (W.sent wire.new) }
-    ensures anywhere { CutsServe turns server.old (W.coming wire.old) (W.coming wire.new) (L.taken log.old) (L.taken log.new) (W.sent wire.old) (W.sent wire.new) }
+        × Serves taken server.old server.new (W.coming wire.old) (W.coming wire.new) (L.taken log.old)
+        (L.taken log.new) (W.sent wire.old) (W.sent wire.new) }
+    ensures anywhere { CutsServe turns server.old (W.coming wire.old) (W.coming wire.new) (L.taken log.old)
+        (L.taken log.new) (W.sent wire.old) (W.sent wire.new) }
     ensures starts { W.started wire.new ≡ W.started wire.old }
     ensures names { L.begun log.new ≡ L.begun log.old }
     ensures wire_later { W.faults wire.old ≤ W.faults wire.new }
@@ -130,10 +142,12 @@ fn serve_turn<W: Wire, L: Log>(
 ) -> Result<u64, Status>
     ensures server { OnOk result (server.new ≡ (step server.old turn.now).state) }
     ensures count { IfOk result (λ n. n ≡ length (logged_in (step server.old turn.now))) }
-    ensures logged { OnOk result (L.taken log.new ≡ known_then (L.taken log.old) (logged_in (step server.old turn.now))) }
+    ensures logged { OnOk result (L.taken log.new
+        ≡ known_then (L.taken log.old) (logged_in (step server.old turn.now))) }
     ensures sent { OnOk result (W.sent wire.new ≡ known_then (W.sent wire.old) (step server.old turn.now).rows) }
     ensures stop { IfErr result (Stops Never (Rose (L.faults log.old) (L.faults log.new)) ⊥ ⊥) }
-    ensures cut { CutsTurn (logged_in (step server.old turn.now)) (step server.old turn.now).rows (L.taken log.old) (L.taken log.new) (W.sent wire.old) (W.sent wire.new) }
+    ensures cut { CutsTurn (logged_in (step server.old turn.now)) (step server.old turn.now).rows (L.taken log.old)
+        (L.taken log.new) (W.sent wire.old) (W.sent wire.new) }
     ensures turns { W.coming wire.new ≡ W.coming wire.old }
     ensures starts { W.started wire.new ≡ W.started wire.old }
     ensures names { L.begun log.new ≡ L.begun log.old }
@@ -175,7 +189,8 @@ fn send_rows<W: Wire>(wire: &mut W, rows: &Outs) -> Result<(), NoMemory>
 }
 
 fn send_row<W: Wire>(wire: &mut W, row: &OutRow) -> Result<(), NoMemory>
-    ensures sent { MatchResult result (λ _. W.sent wire.new ≡ known_then (W.sent wire.old) (row.now ∷ [])) (λ _. W.sent wire.new ≡ W.sent wire.old) }
+    ensures sent { MatchResult result (λ _. W.sent wire.new ≡ known_then (W.sent wire.old) (row.now ∷ []))
+        (λ _. W.sent wire.new ≡ W.sent wire.old) }
     ensures turns { W.coming wire.new ≡ W.coming wire.old }
     ensures starts { W.started wire.new ≡ W.started wire.old }
     ensures faultless { W.faults wire.new ≡ W.faults wire.old }

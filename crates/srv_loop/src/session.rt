@@ -1,10 +1,12 @@
-ghost use Rattle.std.specs.Prelude.{◌≡◌, ◌≢◌, ◌⊎◌, ℕ, ◌+◌, ◌^◌, ◌<◌, ◌≤◌, List, ◌∷◌, ◌++◌, Some, length, IfOk, IfSome, IsSomeAnd, IfErr, IsErrAnd, decimal};
+ghost use Rattle.std.specs.Prelude.{◌≡◌, ◌≢◌, ◌⊎◌, ℕ, ◌+◌, ◌^◌, ◌<◌, ◌≤◌, List, ◌∷◌, ◌++◌, Some, length, IfOk};
+ghost use Rattle.std.specs.Prelude.{IfSome, IsSomeAnd, IfErr, IsErrAnd, decimal};
 ghost use Rattle.std.specs.List.{AllByRecursion};
 ghost use Rattle.rs_base.specs.Bytes.{AreBytes};
 ghost use Rattle.rs_base.specs.Escape.{spelling};
 ghost use Rattle.rs_outside.specs.declared.turn.What.{What};
 ghost use Rattle.rs_outside.specs.declared.turn.Turn.{Turn};
-ghost use Rattle.srv_loop.specs.Session.{IsTurn, IsWhat, IsSession, IsBadLine, IsJudged, IsPlain, SaysPiece, turn_line, what_text, head_text};
+ghost use Rattle.srv_loop.specs.Session.{IsTurn, IsWhat, IsSession, IsBadLine, IsJudged, IsPlain, SaysPiece};
+ghost use Rattle.srv_loop.specs.Session.{turn_line, what_text, head_text};
 
 use memchr::memchr;
 use rs_base::{Bytes, NoMemory, decimal_prefix, unescape};
@@ -14,10 +16,10 @@ use std::alloc::Global;
 /// The most bytes that a piece of a session may have.
 pub const MAX_PIECE_BYTES: u64 = 1_048_576;
 
-/// The turn of a session line, its LF included. `Ok(None)` exactly where `line` is no session line: `NOW WORD CLIENT` and
-/// then `opened`, `piece TEXT`, `closed` or, where CLIENT is 0, `idle`, with one space between and LF at the end. NOW and WORD
-/// are decimals of 64 bits and CLIENT one of 32 bits, without leading zeros; TEXT is the escape of at most
-/// [`MAX_PIECE_BYTES`] bytes.
+/// The turn of a session line, its LF included. `Ok(None)` exactly where `line` is no session line: `NOW WORD CLIENT`
+/// and then `opened`, `piece TEXT`, `closed` or, where CLIENT is 0, `idle`, with one space between and LF at the end.
+/// NOW and WORD are decimals of 64 bits and CLIENT one of 32 bits, without leading zeros; TEXT is the escape of at
+/// most [`MAX_PIECE_BYTES`] bytes.
 pub fn session_line(alloc: Global, line: &[u8]) -> Result<Option<Turn>, NoMemory>
     ensures found { IfOk result (λ found. IfSome found (λ turn. IsTurn turn × (line.now ≡ turn_line turn))) }
     ensures only { (turn : Turn) → IsTurn turn → line.now ≡ turn_line turn → IfOk result (λ found. found ≡ Some turn) }
@@ -63,7 +65,8 @@ struct Head {
 // `NOW WORD CLIENT `
 fn turn_head(text: &[u8]) -> Option<(Head, &[u8])>
     ensures found { IfSome result (λ x. text.now ≡ head_text x.0.clock x.0.word x.0.client ++ x.1.now) }
-    ensures only { (clock word client : ℕ) (rest : List ℕ) → clock < 2 ^ 64 → word < 2 ^ 64 → client < 2 ^ 32 → text.now ≡ head_text clock word client ++ rest
+    ensures only { (clock word client : ℕ) (rest : List ℕ) → clock < 2 ^ 64 → word < 2 ^ 64 → client < 2 ^ 32
+        → text.now ≡ head_text clock word client ++ rest
         → IsSomeAnd result (λ x. (x.0 ≡ record { clock = clock; word = word; client = client }) × (x.1.now ≡ rest)) }
 {
     let (clock, rest) = first_number(text)?;
@@ -83,7 +86,8 @@ fn turn_head(text: &[u8]) -> Option<(Head, &[u8])>
 // The number at the front of a text, and what follows the space behind it.
 fn first_number(text: &[u8]) -> Option<(u64, &[u8])>
     ensures found { IfSome result (λ x. text.now ≡ decimal x.0 ++ 32 ∷ x.1.now) }
-    ensures only { (n : ℕ) (rest : List ℕ) → n < 2 ^ 64 → text.now ≡ decimal n ++ 32 ∷ rest → IsSomeAnd result (λ x. (x.0 ≡ n) × (x.1.now ≡ rest)) }
+    ensures only { (n : ℕ) (rest : List ℕ) → n < 2 ^ 64 → text.now ≡ decimal n ++ 32 ∷ rest
+        → IsSomeAnd result (λ x. (x.0 ≡ n) × (x.1.now ≡ rest)) }
 {
     let (n, rest) = decimal_prefix(text)?;
     let rest = after_prefix(rest, b" ")?;
@@ -92,7 +96,8 @@ fn first_number(text: &[u8]) -> Option<(u64, &[u8])>
 
 // What a client did, in the last place of a line, and what follows the line.
 fn first_what(alloc: Global, client: u32, text: &[u8]) -> Result<Option<(What, &[u8])>, NoMemory>
-    ensures found { IfOk result (λ found. IfSome found (λ x. IsWhat client x.0 × (text.now ≡ what_text x.0 ++ 10 ∷ x.1.now))) }
+    ensures found { IfOk result (λ found.
+        IfSome found (λ x. IsWhat client x.0 × (text.now ≡ what_text x.0 ++ 10 ∷ x.1.now))) }
     ensures only { (what : What) (rest : List ℕ) → IsWhat client what → text.now ≡ what_text what ++ 10 ∷ rest
         → IfOk result (λ found. IsSomeAnd found (λ x. (x.0 ≡ what) × (x.1.now ≡ rest))) }
 {
@@ -105,7 +110,8 @@ fn first_what(alloc: Global, client: u32, text: &[u8]) -> Result<Option<(What, &
 // `opened`, `closed` or, of client 0, `idle`, and LF
 fn plain_what(client: u32, text: &[u8]) -> Option<(What, &[u8])>
     ensures found { IfSome result (λ x. IsWhat client x.0 × IsPlain x.0 × (text.now ≡ what_text x.0 ++ 10 ∷ x.1.now)) }
-    ensures only { (what : What) (rest : List ℕ) → IsWhat client what → IsPlain what → text.now ≡ what_text what ++ 10 ∷ rest
+    ensures only { (what : What) (rest : List ℕ) → IsWhat client what → IsPlain what
+        → text.now ≡ what_text what ++ 10 ∷ rest
         → IsSomeAnd result (λ x. (x.0 ≡ what) × (x.1.now ≡ rest)) }
 {
     if let Some(rest) = after_prefix(text, b"opened\n") {
@@ -124,7 +130,8 @@ fn plain_what(client: u32, text: &[u8]) -> Option<(What, &[u8])>
 // A piece, whose escape stands at the front of a text up to LF.
 fn first_piece(alloc: Global, text: &[u8]) -> Result<Option<(What, &[u8])>, NoMemory>
     ensures found { IfOk result (λ found. IfSome found (λ x. SaysPiece x.0 text.now x.1.now)) }
-    ensures only { (bytes rest : List ℕ) → AreBytes bytes → length bytes ≤ 1048576 → text.now ≡ spelling bytes ++ 10 ∷ rest
+    ensures only { (bytes rest : List ℕ) → AreBytes bytes → length bytes ≤ 1048576
+        → text.now ≡ spelling bytes ++ 10 ∷ rest
         → IfOk result (λ found. IsSomeAnd found (λ x. (x.0 ≡ What.Piece bytes) × (x.1.now ≡ rest))) }
 {
     let Some((escaped, rest)) = first_line(text) else {
@@ -164,8 +171,10 @@ pub fn read_session(alloc: Global, session: &[u8]) -> Result<Turns, Status>
     ensures good { IfOk result (λ turns. IsSession session.now turns) }
     ensures only { (turns : List Turn) → IsSession session.now turns → IfOk result (λ read. read ≡ turns) }
     ensures bad { IfErr result (λ status. IsJudged session.now status) }
-    ensures good_only { (turns : List Turn) → IsSession session.now turns → IfErr result (λ status. status ≡ Status.NoMemory) }
-    ensures bad_only { (line : ℕ) → IsBadLine session.now line → IsErrAnd result (λ status. (status ≡ Status.BadInput line) ⊎ (status ≡ Status.NoMemory)) }
+    ensures good_only { (turns : List Turn) → IsSession session.now turns
+        → IfErr result (λ status. status ≡ Status.NoMemory) }
+    ensures bad_only { (line : ℕ) → IsBadLine session.now line
+        → IsErrAnd result (λ status. (status ≡ Status.BadInput line) ⊎ (status ≡ Status.NoMemory)) }
 {
     let mut turns = Turns::new(alloc);
     let mut line = 1u64;

@@ -295,8 +295,8 @@ fn serves_turns(rt: HostRuntime) -> Result<(), Fail> {
     Ok(())
 }
 
-// A session, the call at which the output fails and that at which the log does, and then the status, how often the output
-// and the log were called, what each took, and whether the log was begun.
+// A session, the call at which the output fails and that at which the log does, and then the status, how often the
+// output and the log were called, what each took, and whether the log was begun.
 type PlayRow = (
     &'static [u8],
     Option<u64>,
@@ -454,8 +454,8 @@ fn played(alloc: Global, rows: &[PlayRow]) -> Result<usize, NoMemory> {
     Ok(rows.len())
 }
 
-// A session of SETs of `k` to as many of one letter each. Two of them are a batch, and so they are written before the third
-// is taken.
+// A session of SETs of `k` to as many of one letter each. Two of them are a batch, and so they are written before the
+// third is taken.
 const LETTERS: &[u8] = b"abc";
 
 const LONG: usize = 40_000;
@@ -512,8 +512,8 @@ fn long_lines(alloc: Global, sets: usize, is_ended: bool) -> Result<Bytes, NoMem
     Ok(lines)
 }
 
-// The call at which the output fails and that at which the log does, and then the status, how often the output and the log
-// were called, and of how many SETs the output took the lines and the log the bytes.
+// The call at which the output fails and that at which the log does, and then the status, how often the output and
+// the log were called, and of how many SETs the output took the lines and the log the bytes.
 type BatchRow = (Option<u64>, Option<u64>, Status, (u64, u64), (usize, usize));
 
 // Lines are only of SETs whose batch the log has whole.

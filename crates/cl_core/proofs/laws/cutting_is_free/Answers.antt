@@ -11,5 +11,6 @@ returns c = λ run clock word client a b valid.
     let turn : Turn = record { clock = clock; word = word; client = client; what = Piece a } in
     let first : Run = with_turn run turn in
     let rises = turn_rises run turn in
-    cut_is c.reading_is_the_grammar.ensures.goes_on c.purge_removes_the_keys_past_their_deadline.ensures.listed run clock word client a b first refl
+    cut_is c.reading_is_the_grammar.ensures.goes_on c.purge_removes_the_keys_past_their_deadline.ensures.listed run
+    clock word client a b first refl
     (c.turns_keep_validity.ensures.turns run.state turn valid).timely (omega arith)

@@ -6,5 +6,6 @@ returns c =
     let kept = c.commands_keep_the_world.ensures in
     record {
       leads = log_leads;
-      groups = groups_made c.purge_removes_the_keys_past_their_deadline.ensures.listed kept.begun kept.command kept.records;
+      groups = groups_made c.purge_removes_the_keys_past_their_deadline.ensures.listed kept.begun kept.command
+          kept.records;
     }

@@ -5,4 +5,8 @@ pub returns : goal.returns
 returns c =
     let law = c.reading_is_the_grammar.ensures in
     let kept = c.commands_keep_the_world.ensures in
-    record { beginning = beginning_valid kept.empty; turns = step_valid law.left law.nothing kept.begun kept.command; time = time_rises }
+    record {
+      beginning = beginning_valid kept.empty;
+      turns = step_valid law.left law.nothing kept.begun kept.command;
+      time = time_rises;
+    }

@@ -4,7 +4,8 @@ use Rattle.cmd_exec.proofs.Refused.{exec-nothing, exec-refused, exec-unknown, ex
 use Rattle.cmd_exec.proofs.laws.a_refused_command_does_nothing.Goals as goal
 
 pub returns-clause-nothing : goal.returns-clause-nothing
-returns-clause-nothing c = exec-nothing c.a_fault_does_nothing_to_strings.ensures c.a_fault_does_nothing_to_keys.ensures
+returns-clause-nothing c = exec-nothing c.a_fault_does_nothing_to_strings.ensures
+    c.a_fault_does_nothing_to_keys.ensures.server c.a_fault_does_nothing_to_keys.ensures.keys
 
 pub returns-clause-no_word : goal.returns-clause-no_word
 returns-clause-no_word c = λ world mode. exec-refused world mode [] NoWord refl

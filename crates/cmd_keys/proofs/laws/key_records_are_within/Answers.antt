@@ -1,5 +1,8 @@
-use Rattle.cmd_keys.proofs.Within.{rows-within}
+use Rattle.cmd_keys.proofs.Within.{server_records-within, key_records-within}
 use Rattle.cmd_keys.proofs.laws.key_records_are_within.Goals as goal
 
-pub returns : goal.returns
-returns c = λ store now draws id words within timely short. rows-within store now draws id words short
+pub returns-clause-server : goal.returns-clause-server
+returns-clause-server c = server_records-within
+
+pub returns-clause-keys : goal.returns-clause-keys
+returns-clause-keys c = key_records-within

@@ -1,14 +1,18 @@
-use Rattle.cmd_keys.proofs.RowLaws.{ttl_expire, pttl_expire, told_forever, told_absent}
+use Rattle.cmd_keys.proofs.RowLaws.{ttl-expire, pttl-pexpire, expiretime-expireat, pexpiretime-pexpireat}
 use Rattle.cmd_keys.proofs.laws.ttl_gives_what_expire_gave.Goals as goal
 
 pub returns-clause-ttl : goal.returns-clause-ttl
-returns-clause-ttl c = ttl_expire
+returns-clause-ttl c = λ world n name other key word entry read some fits there.
+    ttl-expire world n name other key word entry read there some fits
 
 pub returns-clause-pttl : goal.returns-clause-pttl
-returns-clause-pttl c = pttl_expire
+returns-clause-pttl c = λ world n name other key word entry read some fits there.
+    pttl-pexpire world n name other key word entry read there some fits
 
-pub returns-clause-forever : goal.returns-clause-forever
-returns-clause-forever c = told_forever
+pub returns-clause-expiretime : goal.returns-clause-expiretime
+returns-clause-expiretime c = λ world n name other key word entry read later fits there.
+    expiretime-expireat world n name other key word entry read there later fits
 
-pub returns-clause-absent : goal.returns-clause-absent
-returns-clause-absent c = told_absent
+pub returns-clause-pexpiretime : goal.returns-clause-pexpiretime
+returns-clause-pexpiretime c = λ world n name other key word entry read later fits there.
+    pexpiretime-pexpireat world n name other key word entry read there later fits

@@ -1,14 +1,15 @@
-use Rattle.std.proofs.Common.{ap, ◌∙◌}
-use Rattle.fx_record.specs.Records.{applied}
+use Rattle.std.proofs.Common.{subst}
+use Rattle.ks_value.specs.Fields.{Pairs}
+use Rattle.std.proofs.Common.{◌↔◌, IsTrue}
+use Rattle.std.specs.List.{AllByRecursion}
+use Rattle.cmd_rows.specs.Sets.{Agrees}
 use Rattle.fx_record.proofs.Staying.{through}
-use Rattle.cmd_rows.proofs.Sets.{agree-exactly, sets-records}
+use Rattle.cmd_rows.proofs.ManySets.{agree-exactly}
 use Rattle.cmd_rows.proofs.puts.lead_back.Goals as goal
-
-pub apply_all-requires : goal.apply_all-requires
-apply_all-requires c = sets-records c.args.sets.now c.requires
 
 pub returns : goal.returns
 returns c =
-    through c.all_agree.ensures
-    (agree-exactly c.args.space.now c.apply_all.new.space c.args.sets.now c.requires (c.in_ok-apply_all.ensures
-    ∙ ap (λ store. applied store c.args.sets.now) c.new-last.ensures))
+    through (subst (λ (last : Pairs).
+    IsTrue c.all_agree.result ↔ AllByRecursion (Agrees last c.args.space.now) c.args.sets.now)
+    c.in_ok-last.ensures c.all_agree.ensures)
+    (agree-exactly c.args.space.now c.args.sets.now c.requires)

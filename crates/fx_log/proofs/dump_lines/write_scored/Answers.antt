@@ -7,4 +7,5 @@ use Rattle.fx_log.proofs.dump_lines.write_scored.Goals as goal
 pub loop-member-init : goal.loop-member-init
 loop-member-init c =
     ap (λ scored. c.args.out.now ++ flat_map scored_text scored)
-    (c.as_slice-member-items.ensures ∙ c.in_ok-ranks.ensures ∙ all-ranked c.args.scores.now c.len.result c.len.ensures)
+    (c.as_slice-member-items.ensures ∙ c.in_ok-ranks.ensures
+    ∙ all-ranked c.args.scores.now c.len.result c.len.ensures.value)

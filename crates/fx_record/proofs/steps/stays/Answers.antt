@@ -1,4 +1,4 @@
-use Rattle.std.proofs.Common.{Some, None, sym, ◌∙◌, ◌≡◌, ◌≢◌, true≢false}
+use Rattle.std.proofs.Common.{Some, None, sym, ◌∙◌, ◌≢◌, true≢false}
 use Rattle.std.specs.FinMap as finite
 use Rattle.ks_space.specs.Store.{deadline_at}
 use Rattle.fx_record.specs.Records.{string_entry}

@@ -1,5 +1,8 @@
 use Rattle.std.proofs.Common.{inl, inr, refl}
-use Rattle.redscript.proofs.ReplayLaws.{reading_finds_bad, reading_keeps_limit, reading_stops, no_bad_place, not_long, writing_stops, no_done-from_writing, no_refusal-from_writing, IsReplayStatus-from_reading, IsReplayStatus-from_writing, Replays-from_keeps, CutsReplay-from_keeps}
+use Rattle.redscript.proofs.ReplayLaws.{reading_finds_bad, reading_keeps_limit, reading_stops, no_bad_place, not_long}
+use Rattle.redscript.proofs.ReplayLaws.{writing_stops, no_done-from_writing, no_refusal-from_writing}
+use Rattle.redscript.proofs.ReplayLaws.{IsReplayStatus-from_reading, IsReplayStatus-from_writing, Replays-from_keeps}
+use Rattle.redscript.proofs.ReplayLaws.{CutsReplay-from_keeps}
 use Rattle.redscript.proofs.replaying.replay.Goals as goal
 
 pub returns-in-Err-clause-others : goal.returns-in-Err-clause-others
@@ -7,15 +10,18 @@ returns-in-Err-clause-others g c = IsReplayStatus-from_reading c.in-Err.status _
 
 pub returns-in-Err-clause-finds_bad : goal.returns-in-Err-clause-finds_bad
 returns-in-Err-clause-finds_bad g c = λ text place kind told bad.
-    reading_finds_bad c.in-Err.status text _ _ _ place kind c.log_reading_is_the_grammar.ensures.stays c.log_reading_is_the_grammar.ensures.one_bad c.in-Err.ensures.stop told bad
+    reading_finds_bad c.in-Err.status text _ _ _ place kind c.log_reading_is_the_grammar.ensures.stays
+    c.log_reading_is_the_grammar.ensures.one_bad c.in-Err.ensures.stop told bad
 
 pub returns-in-Err-clause-keeps_limit : goal.returns-in-Err-clause-keeps_limit
 returns-in-Err-clause-keeps_limit g c = λ text told long good.
-    elim (reading_keeps_limit c.in-Err.status text _ _ _ c.log_reading_is_the_grammar.ensures.stays c.in-Err.ensures.stop told good) [ inl past ↦ inl past.0 | inr other ↦ inr other ]
+    elim (reading_keeps_limit c.in-Err.status text _ _ _ c.log_reading_is_the_grammar.ensures.stays
+    c.in-Err.ensures.stop told good) [ inl past ↦ inl past.0 | inr other ↦ inr other ]
 
 pub returns-in-Err-clause-replays : goal.returns-in-Err-clause-replays
 returns-in-Err-clause-replays g c = λ text told short good.
-    elim (reading_stops c.in-Err.status text _ _ _ c.log_reading_is_the_grammar.ensures.stays c.in-Err.ensures.stop told short good) [ inl spent ↦ inr (inl spent) | inr rose ↦ inr (inr (inl rose)) ]
+    elim (reading_stops c.in-Err.status text _ _ _ c.log_reading_is_the_grammar.ensures.stays c.in-Err.ensures.stop
+    told short good) [ inl spent ↦ inr (inl spent) | inr rose ↦ inr (inr (inl rose)) ]
 
 pub returns-in-Ok-write_replayed-clause-done : goal.returns-in-Ok-write_replayed-clause-done
 returns-in-Ok-write_replayed-clause-done g c = λ _.
@@ -39,13 +45,16 @@ returns-in-Ok-write_replayed-clause-anywhere g c =
     inr (CutsReplay-from_keeps c.in-Ok.replaying read.0 _ _ _ _ read.1 read.2 c.write_replayed.ensures.cut)
 
 pub returns-clause-done : goal.returns-clause-done
-returns-clause-done g c = λ done. absurd (no_done-from_writing c.in-Err-write_replayed.status _ c.in-Err-write_replayed.ensures.stop done)
+returns-clause-done g c = λ done.
+    absurd (no_done-from_writing c.in-Err-write_replayed.status _ c.in-Err-write_replayed.ensures.stop done)
 
 pub returns-clause-refused : goal.returns-clause-refused
-returns-clause-refused g c = λ refusal. absurd (no_refusal-from_writing c.in-Err-write_replayed.status _ c.in-Err-write_replayed.ensures.stop refusal)
+returns-clause-refused g c = λ refusal.
+    absurd (no_refusal-from_writing c.in-Err-write_replayed.status _ c.in-Err-write_replayed.ensures.stop refusal)
 
 pub returns-clause-others : goal.returns-clause-others
-returns-clause-others g c = IsReplayStatus-from_writing c.in-Err-write_replayed.status _ c.in-Err-write_replayed.ensures.stop
+returns-clause-others g c = IsReplayStatus-from_writing c.in-Err-write_replayed.status _
+    c.in-Err-write_replayed.ensures.stop
 
 pub returns-clause-finds_bad : goal.returns-clause-finds_bad
 returns-clause-finds_bad g c = λ text place kind told bad.
@@ -57,7 +66,8 @@ returns-clause-keeps_limit g c = λ text told long good.
 
 pub returns-clause-replays : goal.returns-clause-replays
 returns-clause-replays g c = λ text told short good.
-    elim (writing_stops c.in-Err-write_replayed.status _ c.in-Err-write_replayed.ensures.stop) [ inl failed ↦ inr (inr (inr failed.1)) | inr spent ↦ inr (inl spent) ]
+    elim (writing_stops c.in-Err-write_replayed.status _ c.in-Err-write_replayed.ensures.stop)
+    [ inl failed ↦ inr (inr (inr failed.1)) | inr spent ↦ inr (inl spent) ]
 
 pub returns-clause-anywhere : goal.returns-clause-anywhere
 returns-clause-anywhere g c =

@@ -10,5 +10,15 @@ returns-in_err-begin-clause-bad_only g c = λ line bad. absurd (c.in_ok-turns.en
 pub returns-clause-ok : goal.returns-clause-ok
 returns-clause-ok g c =
     on_ok_weaker c.play_turns.result
-    (λ wrote. (c.in_ok-turns.turns, c.in_ok-turns.ensures.good, record { begun = c.play_turns.ensures.names ∙ c.in_ok-begin.ensures.ok; logged = wrote.0 ∙ ap (λ k. known_then k (log_bytes c.in_ok-turns.turns)) c.in_ok-begin.ensures.bytes; replays = c.log_replays.ensures c.in_ok-turns.turns; written = wrote.1 }))
+    (λ wrote. (
+      c.in_ok-turns.turns,
+      c.in_ok-turns.ensures.good,
+      record {
+        begun = c.play_turns.ensures.names ∙ c.in_ok-begin.ensures.ok;
+        logged = wrote.0
+            ∙ ap (λ k. known_then k (log_bytes c.in_ok-turns.turns)) c.in_ok-begin.ensures.bytes;
+        replays = c.log_replays.ensures c.in_ok-turns.turns;
+        written = wrote.1;
+      },
+    ))
     c.play_turns.ensures.ok

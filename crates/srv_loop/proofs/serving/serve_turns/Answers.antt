@@ -21,12 +21,19 @@ loop-preserved g c =
       serving = (
         so_far.0 ++ c.in-Some.turn ∷ [],
         length-append so_far.0 (c.in-Some.turn ∷ []) ∙ ap (λ n. n + 1) so_far.1,
-        Serves-more c.log_replays.ensures so_far.0 _ _ _ _ _ _ _ _ _ _ _ _ c.in-Some.turn so_far.2 (came ∙ ap (items_then (c.in-Some.turn ∷ [])) (sym c.in_ok-serve_turn.ensures.turns))
+        Serves-more c.log_replays.ensures so_far.0 _ _ _ _ _ _ _ _ _ _ _ _ c.in-Some.turn so_far.2 (came
+            ∙ ap (items_then (c.in-Some.turn ∷ [])) (sym c.in_ok-serve_turn.ensures.turns))
             c.in_ok-serve_turn.ensures.server c.in_ok-serve_turn.ensures.logged
-            (c.in_ok-serve_turn.ensures.sent ∙ ap (λ k. known_then k (step c.loop.server c.in-Some.turn).rows) c.in_ok-turn.ensures.rows),
+            (c.in_ok-serve_turn.ensures.sent
+            ∙ ap (λ k. known_then k (step c.loop.server c.in-Some.turn).rows) c.in_ok-turn.ensures.rows),
       );
       starts = c.in_ok-serve_turn.ensures.starts ∙ (c.in_ok-turn.ensures.starts ∙ c.loop.invariant.starts);
       names = c.in_ok-serve_turn.ensures.names ∙ c.loop.invariant.names;
-      wire_later = omega (arith, c.in_ok-serve_turn.ensures.faultless, c.in_ok-turn.ensures.later, c.loop.invariant.wire_later);
+      wire_later = omega (
+        arith,
+        c.in_ok-serve_turn.ensures.faultless,
+        c.in_ok-turn.ensures.later,
+        c.loop.invariant.wire_later,
+      );
       log_later = omega (arith, c.in_ok-serve_turn.ensures.log_later, c.loop.invariant.log_later);
     }

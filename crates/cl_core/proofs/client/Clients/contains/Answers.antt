@@ -5,4 +5,6 @@ use Rattle.cl_core.proofs.MapLaws.{get_entries}
 use Rattle.cl_core.proofs.client.Clients.contains.Goals as goal
 
 pub returns : goal.returns
-returns c = c.contains_key.ensures ∙ ap is_some (sym (get_entries nat_cmp_total c.self.inside.open.entries c.args.number)) ∙ ap (λ m. finite.contains_key m c.args.number) c.self.view_is
+returns c = c.contains_key.ensures
+    ∙ ap is_some (sym (get_entries nat_cmp_total c.self.inside.open.entries c.args.number))
+    ∙ ap (λ m. finite.contains_key m c.args.number) c.self.view_is

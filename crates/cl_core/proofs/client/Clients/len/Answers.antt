@@ -6,4 +6,6 @@ use Rattle.cl_core.proofs.MapLaws.{len_rising}
 use Rattle.cl_core.proofs.client.Clients.len.Goals as goal
 
 pub returns : goal.returns
-returns c = c.len.ensures.len ∙ sym (len_rising nat_cmp_total nat_cmp-IsAntisymmetric c.self.inside.open.entries c.len.ensures.ordered) ∙ ap finite.len c.self.view_is
+returns c = c.len.ensures.len ∙ sym
+    (len_rising nat_cmp_total nat_cmp-IsAntisymmetric c.self.inside.open.entries c.len.ensures.ordered)
+    ∙ ap finite.len c.self.view_is

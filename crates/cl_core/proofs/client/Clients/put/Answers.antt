@@ -5,5 +5,6 @@ use Rattle.cl_core.proofs.client.Clients.put.Goals as goal
 
 pub returns : goal.returns
 returns c =
-    inserted nat_cmp_total nat_cmp-IsAntisymmetric c.self.inside.open.entries c.insert.new.self.entries c.args.self.now c.args.number c.args.client c.self.view_is
+    inserted nat_cmp_total nat_cmp-IsAntisymmetric c.self.inside.open.entries c.insert.new.self.entries
+    c.args.self.now c.args.number c.args.client c.self.view_is
     c.in_ok-insert.ensures.updates.0

@@ -6,8 +6,11 @@ use Rattle.cl_core.proofs.MapLaws.{get_entries, left}
 use Rattle.cl_core.proofs.client.Clients.take.Goals as goal
 
 pub returns-clause-client : goal.returns-clause-client
-returns-clause-client c = c.remove.ensures.value ∙ sym (get_entries nat_cmp_total c.self.inside.open.entries c.args.number) ∙ ap (λ m. finite.get m c.args.number) c.self.view_is
+returns-clause-client c = c.remove.ensures.value
+    ∙ sym (get_entries nat_cmp_total c.self.inside.open.entries c.args.number)
+    ∙ ap (λ m. finite.get m c.args.number) c.self.view_is
 
 pub returns-clause-others : goal.returns-clause-others
 returns-clause-others c =
-    left nat_cmp_total nat_cmp-IsAntisymmetric c.self.inside.open.entries c.remove.new.self.entries c.args.self.now c.args.number c.self.view_is c.remove.ensures.updates.0
+    left nat_cmp_total nat_cmp-IsAntisymmetric c.self.inside.open.entries c.remove.new.self.entries c.args.self.now
+    c.args.number c.self.view_is c.remove.ensures.updates.0

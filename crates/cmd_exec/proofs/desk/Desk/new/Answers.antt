@@ -1,5 +1,5 @@
 use Rattle.cmd_exec.proofs.Worlds.{cleared_is}
 use Rattle.cmd_exec.proofs.desk.Desk.new.Goals as goal
 
-pub invariant_of-result : goal.invariant_of-result
-invariant_of-result c = cleared_is _ _ c.new.ensures
+pub over-requires : goal.over-requires
+over-requires c = let is = cleared_is c.new.result 0 c.new.ensures in record { limits = is.0; timely = is.1 }

@@ -1,6 +1,7 @@
 use Rattle.std.proofs.lemmas.Result.{IfOk-weaker}
 use Rattle.fx_log.specs.declared.reader.State.TheVariants as state
 use Rattle.fx_log.proofs.Feeding.{goes-on, command-stops, frame-stops, never-failed}
+use Rattle.fx_log.proofs.Within.{command-stop-within, frame-stop-within}
 use Rattle.fx_log.proofs.reader.LogReader.go_on.Goals as goal
 
 pub returns-in-Ok-clause-goes : goal.returns-in-Ok-clause-goes
@@ -31,3 +32,13 @@ pub returns-in-Err-Failed-clause-stops : goal.returns-in-Err-Failed-clause-stops
 returns-in-Err-Failed-clause-stops c = λ text stands.
     let failed = rw c.in-Err-Failed.field-0-is at (c.in-Err-Failed.ensures.stops text stands.0) in
     absurd (never-failed c.reading_is_the_grammar.ensures.not_both text failed.2.0 stands.1.0 _ stands.1.1 failed.2.1)
+
+pub returns-in-Ok-clause-before : goal.returns-in-Ok-clause-before
+returns-in-Ok-clause-before c =
+    command-stop-within c.in-Ok.commands c.args.opened c.take.new.self c.take.result c.requires.opened
+    c.take.ensures.err
+
+pub returns-in-Err-Bad-clause-before : goal.returns-in-Err-Bad-clause-before
+returns-in-Err-Bad-clause-before c =
+    frame-stop-within c.in-Err-Bad.place c.in-Err-Bad.before c.args.opened c.take_last.new.self c.take_last.result
+    c.requires.opened (rw (c.in-Err-Bad.before-is, c.in-Err-Bad.place-is) at c.take_last.ensures)

@@ -3,8 +3,8 @@ use Rattle.fx_record.specs.RecordWords.{record_shaped}
 use Rattle.fx_record.proofs.WordLaws.{IsRecord-found}
 use Rattle.fx_record.proofs.record.Record.from_words.Goals as goal
 
-pub returns-then-are_short-clause-within : goal.returns-then-are_short-clause-within
-returns-then-are_short-clause-within c =
+pub returns-then-are_within_limits-clause-within : goal.returns-then-are_within_limits-clause-within
+returns-then-are_within_limits-clause-within c =
     IsRecord-found c.args.words c.read.result
-    (c.read.ensures ∙ ap (λ short. cond short (record_shaped c.args.words) None)
-    (sym c.if-are_short.true ∙ c.are_short.ensures))
+    (c.read.ensures ∙ ap (λ within. cond within (record_shaped c.args.words) None)
+    (sym c.if-are_within_limits.true ∙ c.are_within_limits.ensures))

@@ -1,14 +1,7 @@
 use Rattle.std.proofs.Common.{◌∙◌, ◌∷◌, [], ◌++◌, ap, sym, append_assoc}
-use Rattle.ks_space.specs.Purge.{gone, purged}
+use Rattle.ks_space.specs.Purge.{gone}
 use Rattle.ks_space.proofs.Gone.{purged-first, purged-none}
-use Rattle.ks_space.proofs.Always.{on_err_always}
 use Rattle.ks_space.proofs.space.Space.purge.Goals as goal
-
-pub returns-in_err-push-clause-err : goal.returns-in_err-push-clause-err
-returns-in_err-push-clause-err c =
-    on_err_always c.from_residual.result
-    (sym (purged-first c.loop-key.self c.pop_gone.new.self c.args.now c.in-Some.key c.in-Some.ensures.first
-    c.in-Some.ensures.left) ∙ c.loop-key.invariant.1)
 
 pub loop-key-preserved : goal.loop-key-preserved
 loop-key-preserved c =

@@ -1,5 +1,3 @@
-use Rattle.std.specs.List.Sorted.{IsStrictlySortedBy}
-use Rattle.ks_zset.specs.Zset.{by_score}
 use Rattle.ks_tree.proofs.Order.{sorted_nil}
 use Rattle.ks_zset.proofs.ScoreOrder.{score_total}
 use Rattle.ks_zset.proofs.ranking.Ranking.new.Goals as goal

@@ -1,6 +1,5 @@
-use Rattle.std.proofs.Common.{◌∙◌, ap, sym, subst, count_by, rules}
+use Rattle.std.proofs.Common.{◌∙◌, ap, count_by, rules}
 use Rattle.std.specs.Ordering.{is_lt}
-use Rattle.std.specs.List.Sorted.{IsStrictlySortedBy}
 use Rattle.std.proofs.lemmas.Fn.{always_returns_same}
 use Rattle.ks_tree.proofs.Places.{parted_before}
 use Rattle.ks_zset.specs.Zset.{by_score}

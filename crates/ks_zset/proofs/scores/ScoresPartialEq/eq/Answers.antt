@@ -1,4 +1,4 @@
-use Rattle.std.proofs.Common.{ℤ, ◌&&◌, List, ℕ, length, Vec, Global, ◌∙◌, ap, ap₂, sym}
+use Rattle.std.proofs.Common.{ℤ, ◌&&◌, ℕ, Vec, Global, ◌∙◌, ap₂, sym}
 use Rattle.std.specs.Ordering.{int_eq}
 use Rattle.std.specs.Str.{bytes_eq}
 use Rattle.std.specs.Cmp.Lexicographic.{pointwise}

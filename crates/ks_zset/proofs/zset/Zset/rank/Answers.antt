@@ -12,7 +12,7 @@ returns-in-None c = sym (rank_absent c.args.self.now c.args.member.now
 pub returns-in-Some : goal.returns-in-Some
 returns-in-Some c =
     let scored : ScoredMember = (c.args.member.now, c.in-Some.score) in
-    ap Some (c.place.ensures ∙ ap (λ ranking. place_of by_score ranking scored) (c.self.invariant
+    ap Some (c.place.ensures ∙ ap (λ ranking. place_of by_score ranking scored) (c.self.invariant.0
     ∙ ap ranking_of c.self.view_is))
     ∙ sym (rank_found c.args.self.now c.args.member.now c.in-Some.score
     (ap (λ z. finite.get z c.args.member.now) (sym c.self.view_is) ∙ sym c.get.ensures ∙ c.in-Some.is))

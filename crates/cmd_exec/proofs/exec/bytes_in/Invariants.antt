@@ -1,6 +1,0 @@
-use Rattle.std.proofs.Common.{◌≡◌, ◌-◌, ◌^◌, min, length, take}
-use Rattle.std.specs.List.{sum_by}
-use Rattle.cmd_exec.proofs.exec.bytes_in.Given as goal
-
-abbrev pub invariant-loop-word : goal.invariant-loop-word
-invariant-loop-word l = l.bytes ≡ min (sum_by length (take l.word-index l.words)) (2 ^ 64 - 1)

@@ -1,5 +1,0 @@
-use Rattle.log_cases.proofs.ShortTexts.{AreShort}
-use Rattle.log_cases.proofs.values.sorted.Given as goal
-
-abbrev pub invariant-loop-scored : goal.invariant-loop-scored
-invariant-loop-scored l = AreShort l.scores
