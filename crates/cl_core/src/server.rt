@@ -272,7 +272,9 @@ fn is_quit(words: &Words) -> bool
     ensures { result ≡ is_quit words.now }
 {
     match words.as_slice() {
-        [name] => name.as_slice().eq_ignore_ascii_case(CmdId::Client(ClientCmd::Quit).name()),
+        [name] => name
+            .as_slice()
+            .eq_ignore_ascii_case(CmdId::Client(ClientCmd::Quit).name()),
         _ => false,
     }
 }
