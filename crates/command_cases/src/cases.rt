@@ -1,5 +1,6 @@
 ghost use Rattle.std.specs.Prelude.{◌≡◌, ◌∷◌, [], ◌++◌, OnOk};
 ghost use Rattle.rs_base.specs.Escape.{spelling};
+ghost use Rattle.ks_space.specs.Store.{IsKey, IsKept};
 
 use crate::line::{Line, Opening, Turn};
 use anyhow::{Result, bail};
@@ -68,12 +69,11 @@ impl Cases {
     }
 
     fn open(&mut self, opening: Opening) -> Result<(), NoMemory> {
-        let space = if opening.has_list {
-            space_with_list(self.alloc)?
+        self.desk = if opening.has_list {
+            desk_with_list(self.alloc, opening.mode)?
         } else {
-            Space::new(self.alloc)
+            Desk::new(self.alloc, opening.mode)
         };
-        self.desk = Desk::over(space, Ctx { time: 0 }, opening.mode, 0);
         self.begin(opening.turn)
     }
 
@@ -124,17 +124,25 @@ impl Cases {
     }
 }
 
-// A store whose key `list` holds a list of one item.
-fn space_with_list(alloc: Global) -> Result<Space, NoMemory> {
+// A desk over a store whose key `list` holds a list of one item.
+fn desk_with_list(alloc: Global, mode: Mode) -> Result<Desk, NoMemory> {
     let mut items = ListValue::new(alloc);
     items.push_back(Bytes::from_slice(alloc, b"item")?)?;
     let entry = Entry {
         value: Value::List(items),
         deadline: None,
     };
+    desk_with(alloc, mode, Bytes::from_slice(alloc, b"list")?, entry)
+}
+
+// A desk at time 0 over a store of one key.
+fn desk_with(alloc: Global, mode: Mode, key: Bytes, entry: Entry) -> Result<Desk, NoMemory>
+    requires key { IsKey key }
+    requires entry { IsKept entry }
+{
     let mut space = Space::new(alloc);
-    space.put(Bytes::from_slice(alloc, b"list")?, entry)?;
-    Ok(space)
+    space.put(key, entry)?;
+    Ok(Desk::over(space, Ctx { time: 0 }, mode, 0))
 }
 
 // Writes a line of a name and a word, which is escaped.
